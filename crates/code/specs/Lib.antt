@@ -1,0 +1,11 @@
+pub mod Code
+pub mod Fold
+pub mod Lists
+pub mod Positions
+pub mod Marked
+pub mod TestLaws
+pub mod XorLaws
+pub mod RemainderLaws
+pub mod CodeLaws
+pub mod MendLaws
+pub mod FoldLaws

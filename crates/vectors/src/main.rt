@@ -1,0 +1,124 @@
+// Trials at run time: the code inside a chip against document 01's marked examples and against a CRC-8 made another way. Each line of
+// output says what was tried, how many trials came out right, and of how many.
+use libc::STDOUT_FILENO;
+
+mod crc;
+
+// What is tried. Trials of a kind are numbered from 0.
+enum Trial {
+    // A row of document 01's marked examples.
+    Marked,
+    // The CRC-8 of the digits 1 to 9 in ASCII, which is published as F4h for this polynomial with no pattern added.
+    Published,
+    // A word with one bit set: its check byte, and its syndrome beside check byte FFh.
+    OneBitWord,
+    // A word and a check byte of the generator: the same.
+    Word,
+    // A codeword with one of its 72 bits inverted: its syndrome, its position, and its word after mending.
+    Damage,
+}
+
+fn main() {
+    report(b"marked examples", Trial::Marked, 12);
+    report(b"published CRC-8", Trial::Published, 1);
+    report(
+        b"words with one bit set, against the bitwise CRC-8",
+        Trial::OneBitWord,
+        64,
+    );
+    report(
+        b"words of the generator, against the bitwise CRC-8",
+        Trial::Word,
+        100000,
+    );
+    report(b"codewords with one bit inverted", Trial::Damage, 16 * 72);
+}
+
+fn report(what: &[u8], trial: Trial, n: u64) {
+    io::write_all(STDOUT_FILENO, what);
+    io::write_all(STDOUT_FILENO, b": ");
+    io::print_decimal(STDOUT_FILENO, right(trial, n));
+    io::write_all(STDOUT_FILENO, b" of ");
+    io::print_decimal(STDOUT_FILENO, n);
+    io::write_all(STDOUT_FILENO, b"\n");
+}
+
+// How many of the first n trials come out right.
+fn right(trial: Trial, n: u64) -> u64 {
+    let mut count = 0;
+    for i in 0..n {
+        if comes_out(trial, i) {
+            count += 1;
+        }
+    }
+    count
+}
+
+fn comes_out(trial: Trial, i: u64) -> bool {
+    match trial {
+        Trial::Marked => row_holds(i),
+        Trial::Published => digits_crc() == 0xf4,
+        Trial::OneBitWord => agrees(word_bit(8 + i % 64), 0xff),
+        Trial::Word => agrees(word_of(i), (word_of(i) / 256 % 256) as u8),
+        Trial::Damage => mends(word_of(i / 72), i % 72),
+    }
+}
+
+// Whether a row of the marked examples is what the functions of `code` say.
+fn row_holds(i: u64) -> bool {
+    let rows = code::marked::table();
+    let row = rows[(i % 12) as usize];
+    code::check_byte(row.word) == row.check_byte
+        && code::syndrome(row.word, row.given) == row.syndrome
+        && code::position(row.syndrome) == row.position
+        && code::mend(row.word, row.given) == row.mended_word
+}
+
+// The CRC-8 of the digits 1 to 9 in ASCII: the remainder of their nine bytes times x^8.
+fn digits_crc() -> u8 {
+    let s = code::syndrome(0x3132_3334_3536_3738, 0x39);
+    code::check_byte(s as u64)
+}
+
+// Whether the check byte and the syndrome are those of the bitwise CRC-8.
+fn agrees(word: u64, check: u8) -> bool {
+    code::check_byte(word) == crc::remainder(word, 0)
+        && code::syndrome(word, check) == crc::remainder(word, check)
+}
+
+// Whether the codeword of a word with one bit inverted has the bitwise CRC-8 for its syndrome, and its bit is found and mended.
+fn mends(word: u64, position: u64) -> bool {
+    let damaged = word ^ word_bit(position);
+    let check = code::check_byte(word) ^ check_bit(position);
+    let s = code::syndrome(damaged, check);
+    s == crc::remainder(damaged, check)
+        && code::position(s) as u64 == position
+        && code::mend(damaged, check) == word
+}
+
+// The bit of the word at a position, and that of the check byte; none where the position is of the other.
+fn word_bit(position: u64) -> u64 {
+    if position < 8 {
+        return 0;
+    }
+    if position < 72 {
+        1 << (position - 8)
+    } else {
+        0
+    }
+}
+
+fn check_bit(position: u64) -> u8 {
+    if position < 8 { 1 << position } else { 0 }
+}
+
+// A word of a fixed generator: a number spread over the 64 bits by shifts and xors.
+fn word_of(i: u64) -> u64 {
+    spread(spread(spread(i % 1048576 * 0x9e37_79b9 + 1)))
+}
+
+fn spread(word: u64) -> u64 {
+    let a = word ^ (word << 13);
+    let b = a ^ (a >> 7);
+    b ^ (b << 17)
+}
