@@ -42,7 +42,7 @@ at40 w h =
 
 -- where x^j is 1 + x^b + x^d
 module _ (j b d : ℕ) (t : T (sums j 0 b d)) (hb : b ≤ d) (hd : d ≤ j) (v : ℕ) (h : v < 2 ^ 64) where
-  pub at-one : Folded j d v (bitXor (bitXor (bitXor (bitAnd v (2 ^ j - 1)) (v / 2 ^ j)) (v / 2 ^ j * 2 ^ b % 2 ^ 64)) (v / 2 ^ j * 2 ^ d % 2 ^ 64))
+  at-one : Folded j d v (bitXor (bitXor (bitXor (bitAnd v (2 ^ j - 1)) (v / 2 ^ j)) (v / 2 ^ j * 2 ^ b % 2 ^ 64)) (v / 2 ^ j * 2 ^ d % 2 ^ 64))
   at-one =
       folded j 0 b d t zero-le hb v (v / 2 ^ j) (v % 2 ^ j) refl refl
       (bitAnd v (2 ^ j - 1)) (v / 2 ^ j) (v / 2 ^ j * 2 ^ b % 2 ^ 64) (v / 2 ^ j * 2 ^ d % 2 ^ 64)
@@ -60,7 +60,7 @@ at8 v h = at-one 8 1 2 sums8 (lit≤ tt) (lit≤ tt) v h
 
 module _ (w r₁ r₂ r₃ r₄ r₅ : ℕ) (h : w < 2 ^ 64) (f₁ : Folded 40 6 (w * 256) r₁) (f₂ : Folded 16 4 r₁ r₂) (f₃ : Folded 16 4 r₂ r₃)
     (f₄ : Folded 8 2 r₃ r₄) (f₅ : Folded 8 2 r₄ r₅) where
-  -- of 40, 28, 16, 10 and 8 bits
+  -- the folds leave 40, 28, 16, 10 and 8 bits
   pub last-small : r₅ < 256
   last-small =
       f₅ .small 6 (lit≤ tt)

@@ -22,7 +22,7 @@ timesGenerator q = bitXor (bitXor (q * 2 ^ 8) (q * 2 ^ 2)) (bitXor (q * 2) q)
 unfoldable pub timesX : ℕ → ℕ
 timesX r = bitXor (r * 2) (r / 2 ^ 7 % 2 * generator)
 
--- long division from the highest bit of p down, of no more than n bits
+-- long division from the highest bit of p down, of no more than n bits; it stops where p is used up, so that it computes for any n
 unfoldable pub remainderIn : ℕ → ℕ → ℕ
 remainderIn zero p = 0
 remainderIn (suc n) zero = 0
@@ -57,7 +57,7 @@ positionFrom (suc n) i s = cond (eqb (syndromeAt i) s) i (positionFrom n (suc i)
 unfoldable pub positionOf : ℕ → ℕ
 positionOf s = positionFrom 72 0 s
 
--- the bit that mending inverts: that of a position, and none for 255
+-- the bit that mending inverts: that of a position, and none for any other number, as 255
 unfoldable pub bitAt : ℕ → ℕ
 bitAt i = cond (ltb i 72) (2 ^ i) 0
 

@@ -1,8 +1,8 @@
 pub mod Code
-pub mod Fold
-pub mod Lists
 pub mod Positions
+pub mod Lists
 pub mod Marked
+pub mod Fold
 pub mod TestLaws
 pub mod XorLaws
 pub mod RemainderLaws

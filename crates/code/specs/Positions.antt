@@ -1,4 +1,4 @@
--- What the table of positions is. Definitions alone.
+-- Document 01, "The code inside a chip": the positions by syndrome, in 256 entries. Definitions alone.
 use mathlib.Core.Path.{_≡_}
 use mathlib.Core.List.{List}
 use Prim.Native.Nat.{ℕ, _<_}

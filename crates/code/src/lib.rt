@@ -61,7 +61,8 @@ fn word_bit(position: u8) -> u64
     }
 }
 
-// A fold leaves a shorter polynomial with the same remainder. This one folds the word times x^8, since x^40 is x^6 + x^5 + x.
+// A fold leaves a shorter polynomial with the same remainder. This one folds the word times x^8 at x^40,
+// whose remainder is x^6 + x^5 + x.
 fn fold40(word: u64) -> u64
     ensures { λ r. ⌜ Folded 40 6 (word * 256) r ⌝ }
 {
@@ -69,7 +70,7 @@ fn fold40(word: u64) -> u64
     ((word & 0xffff_ffff) << 8) ^ (h << 1) ^ (h << 5) ^ (h << 6)
 }
 
-// x^16 is x^4 + x^2 + 1.
+// The remainder of x^16 is x^4 + x^2 + 1.
 fn fold16(v: u64) -> u64
     ensures { λ r. ⌜ Folded 16 4 v r ⌝ }
 {
@@ -77,7 +78,7 @@ fn fold16(v: u64) -> u64
     (v & 0xffff) ^ h ^ (h << 2) ^ (h << 4)
 }
 
-// x^8 is x^2 + x + 1.
+// The remainder of x^8 is x^2 + x + 1.
 fn fold8(v: u64) -> u64
     ensures { λ r. ⌜ Folded 8 2 v r ⌝ }
 {

@@ -1,5 +1,5 @@
 // Trials at run time: the code inside a chip against document 01's marked examples and against a CRC-8 made another way. Each line of
-// output says what was tried, how many trials came out right, and of how many.
+// output says what was tried, how many trials passed, and of how many.
 use libc::STDOUT_FILENO;
 
 mod crc;
@@ -8,13 +8,13 @@ mod crc;
 enum Trial {
     // A row of document 01's marked examples.
     Marked,
-    // The CRC-8 of the digits 1 to 9 in ASCII, which is published as F4h for this polynomial with no pattern added.
+    // The CRC-8 of the digits 1 to 9 in ASCII: F4h is the check value of CRC-8/SMBUS, which has this polynomial and adds nothing.
     Published,
-    // A word with one bit set: its check byte, and its syndrome beside check byte FFh.
+    // A word with one bit set: its check byte, and beside check byte FFh its syndrome and the codeword test.
     OneBitWord,
-    // A word and a check byte of the generator: the same.
+    // A word and a check byte of a fixed sequence: the same.
     Word,
-    // A codeword with one of its 72 bits inverted: its syndrome, its position, and its word after mending.
+    // A codeword with one of its 72 bits inverted: the same, its position, and its word after mending.
     Damage,
 }
 
@@ -27,34 +27,38 @@ fn main() {
         64,
     );
     report(
-        b"words of the generator, against the bitwise CRC-8",
+        b"words of a fixed sequence, against the bitwise CRC-8",
         Trial::Word,
         100000,
     );
-    report(b"codewords with one bit inverted", Trial::Damage, 16 * 72);
+    report(
+        b"one-bit damages of 16 codewords, against the bitwise CRC-8",
+        Trial::Damage,
+        16 * 72,
+    );
 }
 
 fn report(what: &[u8], trial: Trial, n: u64) {
     io::write_all(STDOUT_FILENO, what);
     io::write_all(STDOUT_FILENO, b": ");
-    io::print_decimal(STDOUT_FILENO, right(trial, n));
+    io::print_decimal(STDOUT_FILENO, count_right(trial, n));
     io::write_all(STDOUT_FILENO, b" of ");
     io::print_decimal(STDOUT_FILENO, n);
     io::write_all(STDOUT_FILENO, b"\n");
 }
 
-// How many of the first n trials come out right.
-fn right(trial: Trial, n: u64) -> u64 {
+// How many of the first n trials pass.
+fn count_right(trial: Trial, n: u64) -> u64 {
     let mut count = 0;
     for i in 0..n {
-        if comes_out(trial, i) {
+        if passes(trial, i) {
             count += 1;
         }
     }
     count
 }
 
-fn comes_out(trial: Trial, i: u64) -> bool {
+fn passes(trial: Trial, i: u64) -> bool {
     match trial {
         Trial::Marked => row_holds(i),
         Trial::Published => digits_crc() == 0xf4,
@@ -80,19 +84,19 @@ fn digits_crc() -> u8 {
     code::check_byte(s as u64)
 }
 
-// Whether the check byte and the syndrome are those of the bitwise CRC-8.
+// Whether the check byte, the syndrome and the codeword test are those of the bitwise CRC-8.
 fn agrees(word: u64, check: u8) -> bool {
     code::check_byte(word) == crc::remainder(word, 0)
         && code::syndrome(word, check) == crc::remainder(word, check)
+        && code::is_codeword(word, check) == (crc::remainder(word, check) == 0)
 }
 
-// Whether the codeword of a word with one bit inverted has the bitwise CRC-8 for its syndrome, and its bit is found and mended.
+// Whether the codeword of a word with one bit inverted agrees with the bitwise CRC-8, and the bit is found and mended.
 fn mends(word: u64, position: u64) -> bool {
     let damaged = word ^ word_bit(position);
-    let check = code::check_byte(word) ^ check_bit(position);
-    let s = code::syndrome(damaged, check);
-    s == crc::remainder(damaged, check)
-        && code::position(s) as u64 == position
+    let check = crc::remainder(word, 0) ^ check_bit(position);
+    agrees(damaged, check)
+        && code::position(code::syndrome(damaged, check)) as u64 == position
         && code::mend(damaged, check) == word
 }
 
@@ -112,7 +116,7 @@ fn check_bit(position: u64) -> u8 {
     if position < 8 { 1 << position } else { 0 }
 }
 
-// A word of a fixed generator: a number spread over the 64 bits by shifts and xors.
+// A word of the fixed sequence: a number spread over the 64 bits by shifts and xors. The remainder keeps the product within them.
 fn word_of(i: u64) -> u64 {
     spread(spread(spread(i % 1048576 * 0x9e37_79b9 + 1)))
 }

@@ -1,4 +1,4 @@
--- `code::mend` meets its contract: a codeword's word stays, and any other gets the bit of its position.
+-- `code::mend` meets its contract: a codeword's word stays, and any other has the bit of its position inverted.
 -- Assumes nothing.
 use mathlib.Core.Path.{sym, ap, _∙_}
 use Prim.Native.Nat.{ℕ, _/_}

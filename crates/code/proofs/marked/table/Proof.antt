@@ -1,13 +1,13 @@
 -- `code::marked::table` meets its contract: the rows are tested together, by one test that antt computes.
 -- Assumes nothing.
-use mathlib.Core.Path.{_≡_}
+use mathlib.Core.Path.{_≡_, refl}
 use mathlib.Core.Bool.{Bool}
 use mathlib.Core.List.{List, [], _∷_}
 use Prim.Native.Nat.{ℕ}
 use lib.Dec.{T, eqb, eqb→eq}
 use Rattle.code.specs.Code.{cell, timesX, remainderIn, remainder, syndromeOf, checkOf, syndromeAt, positionFrom, positionOf, bitAt, mended, mendedWord}
 use Rattle.code.specs.Lists.{Every}
-use Rattle.code.specs.Marked.{Holds}
+use Rattle.code.specs.Marked.{examples, Holds}
 use Rattle.code.specs.TestLaws.{all, all-every}
 use Rattle.code.specs.declared.marked.Marked.{Marked}
 use Rattle.code.proofs.marked.table.Statement.{statement}
@@ -30,11 +30,11 @@ holds : (m : Marked) → T (test m) → Holds m
 unfolding test sides Every
 holds m t =
     let e = all-every (λ s. s .0 ≡ s .1) (λ s. eqb (s .0) (s .1)) (λ s. eqb→eq (s .0) (s .1)) (sides m) t in
-    record { checks = e .0; sums = e .1 .0; placed = e .1 .1 .0; mends = e .1 .1 .1 .0; mends-to = e .1 .1 .1 .1 .0 }
+    record { has-check = e .0; has-syndrome = e .1 .0; has-position = e .1 .1 .0; mends = e .1 .1 .1 .0; mends-to = e .1 .1 .1 .1 .0 }
 
 returns : tie.Need-returns
-unfolding test sides checkOf mendedWord mended bitAt positionOf positionFrom syndromeAt syndromeOf remainder remainderIn timesX
-returns c = all-every Holds test holds _ tt
+unfolding examples test sides checkOf mendedWord mended bitAt positionOf positionFrom syndromeAt syndromeOf remainder remainderIn timesX
+returns c = record { these = refl; hold = all-every Holds test holds _ tt }
 
 pub table-spec : {M : Type 1} → statement M
 table-spec = tie.close (tie.spec returns)

@@ -1,10 +1,10 @@
--- `vectors::right` is safe, since it counts no more than one a turn, and ends. Assumes nothing.
+-- `vectors::count_right` is safe, since it counts no more than one a turn, and ends. Assumes nothing.
 use mathlib.Core.Logic.{⊎-elim}
 use Prim.Native.Nat.{_-_, _≤_}
 use native.Mathlib.Omega.{arith}
 use borrow.Author.Needs.{needs}
-use Rattle.vectors.proofs.right.Statement.{statement}
-use Rattle.vectors.proofs.right.Tie as tie
+use Rattle.vectors.proofs.count_right.Statement.{statement}
+use Rattle.vectors.proofs.count_right.Tie as tie
 
 abbrev Inv-loop : tie.InvT-loop
 Inv-loop trial n count₀ i₀ count i = (count ≤ i) × (i ≤ n)
@@ -15,8 +15,8 @@ abbrev μ-loop : tie.MeasureT-loop
 loop-again : tie.Need-loop-again Inv-loop μ-loop
 loop-again c = ⊎-elim (λ w. (omega arith, omega arith)) (λ w. (omega arith, omega arith)) (c .if1 .came)
 
-pub right-spec : {M : Type 1} → statement M
-right-spec =
+pub count-right-spec : {M : Type 1} → statement M
+count-right-spec =
     tie.close
     (tie.spec
     Inv-loop
