@@ -3,15 +3,15 @@
 use mathlib.Core.Path.{_≡_, refl, sym, ap, _∙_}
 use mathlib.Core.Logic.{_⊎_, inl, inr, ⊎-elim}
 use mathlib.Core.Bool.{Bool, true, false, cond}
-use Prim.Native.Nat.{ℕ, _*_, _/_, _%_, _^_, _<_}
+use Prim.Native.Nat.{ℕ, zero, suc, _+_, _*_, _/_, _%_, _^_, _<_}
 use native.Mathlib.Nat.{one-mul, lt-of-lt-of-le}
 use native.Mathlib.Omega.{arith}
-use lib.Dec.{T, eqb, ltb, eqb→eq, ltb→lt, lit<, lit≤}
+use lib.Dec.{T, eqb, eqb→eq, lit<, lit≤}
 use lib.Pow.{high, low}
 use lib.Bits.{bitXor, xor-block, xor-self, xor-shifted}
 use borrow.Author.Tests.{eq-eqb, eqb-true}
 use Rattle.code.specs.XorLaws.{xor-zero-eq}
-use Rattle.code.specs.TestLaws.{each, each-at, each-equal}
+use Rattle.code.specs.TestLaws.{each, each-equal}
 use Rattle.code.specs.Code.{cell, timesX, remainderIn, remainder, syndromeOf, isCodeword, checkOf, syndromeAt, positionFrom, positionOf}
 use Rattle.code.specs.RemainderLaws.{upX, remainder-xor, remainder-lt, remainder-shl, remainder-byte}
 
@@ -107,23 +107,27 @@ found-test = tt
 pub position-found : (i : ℕ) → i < 72 → positionOf (syndromeAt i) ≡ i
 position-found i h = each-equal (λ i. positionOf (syndromeAt i)) (λ i. i) 72 found-test i h
 
-placed-test : T (each (λ s. cond (ltb (positionOf s) 72) (eqb (syndromeAt (positionOf s)) s) (eqb (positionOf s) 255)) 256)
-unfolding positionOf positionFrom syndromeAt syndromeOf remainder remainderIn timesX
-placed-test = tt
+-- p is one of the positions below n, and has the syndrome s, or it is 255
+abbrev pub Placed : ℕ → ℕ → ℕ → Type 0
+Placed n s p = ((p < n) × (syndromeAt p ≡ s)) ⊎ (p ≡ 255)
 
--- a syndrome's position is one of the 72, and has this syndrome, or it is 255
-pub position-placed : (s : ℕ) → s < 256 → ((positionOf s < 72) × (syndromeAt (positionOf s) ≡ s)) ⊎ (positionOf s ≡ 255)
-position-placed s h =
-    pick (ltb (positionOf s) 72) (ltb→lt (positionOf s) 72)
-    (each-at (λ s. cond (ltb (positionOf s) 72) (eqb (syndromeAt (positionOf s)) s) (eqb (positionOf s) 255)) 256 placed-test s h)
+placed : (n i s : ℕ) → Placed (i + n) s (positionFrom n i s)
+unfolding positionFrom
+placed zero i s = inr refl
+placed (suc n) i s = pick (eqb (syndromeAt i) s) (eqb→eq (syndromeAt i) s) (placed n (suc i) s)
   where
-    pick : (t : Bool) → (T t → positionOf s < 72) → T (cond t (eqb (syndromeAt (positionOf s)) s) (eqb (positionOf s) 255))
-        → ((positionOf s < 72) × (syndromeAt (positionOf s) ≡ s)) ⊎ (positionOf s ≡ 255)
-    pick true b e = inl (b tt, eqb→eq (syndromeAt (positionOf s)) s e)
-    pick false b e = inr (eqb→eq (positionOf s) 255 e)
+    pick : (t : Bool) → (T t → syndromeAt i ≡ s) → Placed (suc i + n) s (positionFrom n (suc i) s)
+        → Placed (i + suc n) s (cond t i (positionFrom n (suc i) s))
+    pick true h later = inl (omega arith, h tt)
+    pick false h (inl p) = let b : positionFrom n (suc i) s < suc i + n = p .0 in inl (omega arith, p .1)
+    pick false h (inr e) = inr e
 
-pub position-lt : (s : ℕ) → s < 256 → positionOf s < 256
-position-lt s h = ⊎-elim (λ p. lt-of-lt-of-le (p .0) (lit≤ tt)) (λ e. omega arith) (position-placed s h)
+pub position-placed : (s : ℕ) → Placed 72 s (positionOf s)
+unfolding positionOf
+position-placed s = placed 72 0 s
+
+pub position-lt : (s : ℕ) → positionOf s < 256
+position-lt s = ⊎-elim (λ p. lt-of-lt-of-le (p .0) (lit≤ tt)) (λ e. omega arith) (position-placed s)
 
 -- where it is 255, no position has this syndrome
 pub position-none : (s i : ℕ) → positionOf s ≡ 255 → i < 72 → syndromeAt i ≡ s → ⊥

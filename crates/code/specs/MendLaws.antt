@@ -14,7 +14,7 @@ use lib.Count.{ones, ones-step}
 use borrow.Author.Tests.{lt-ltb, le-ltb}
 use Rattle.code.specs.XorLaws.{bit-lt, xor-assoc}
 use Rattle.code.specs.Code.{cell, syndromeOf, checkOf, syndromeAt, positionOf, bitAt, mended, mendedWord}
-use Rattle.code.specs.CodeLaws.{cell-word, stored-cell, syndrome-xor, syndrome-lt, syndrome-zero, syndrome-damaged, check-lt, check-makes, position-found, position-placed, position-zero, positions-nonzero}
+use Rattle.code.specs.CodeLaws.{cell-word, stored-cell, syndrome-xor, syndrome-zero, syndrome-damaged, check-lt, check-makes, position-found, position-placed, position-zero, positions-nonzero}
 
 -- ---- the bit of a position
 
@@ -73,7 +73,7 @@ pub mended-makes : (e : ℕ) → positionOf (syndromeOf e) < 72 → syndromeOf (
 unfolding mended syndromeAt
 mended-makes e h =
     let p : ℕ = positionOf (syndromeOf e) in
-    let has : syndromeAt p ≡ syndromeOf e = ⊎-elim (λ q. q .1) (λ z. absurd (omega arith)) (position-placed (syndromeOf e) (syndrome-lt e)) in
+    let has : syndromeAt p ≡ syndromeOf e = ⊎-elim (λ q. q .1) (λ z. absurd (omega arith)) (position-placed (syndromeOf e)) in
     syndrome-xor e (bitAt p) ∙ ap (bitXor (syndromeOf e)) (ap syndromeOf (bitAt-position p h) ∙ has) ∙ xor-self (syndromeOf e)
 
 pub mended-codeword : (e : ℕ) → syndromeOf e ≡ 0 → mended e ≡ e

@@ -1,5 +1,5 @@
 // Trials at run time: the code inside a chip against document 01's marked examples and against a CRC-8 made another way. Each line of
-// output says what was tried, how many trials passed, and of how many.
+// output says what was tried, how many trials succeeded, and of how many.
 use libc::STDOUT_FILENO;
 
 mod crc;
@@ -41,24 +41,24 @@ fn main() {
 fn report(what: &[u8], trial: Trial, n: u64) {
     io::write_all(STDOUT_FILENO, what);
     io::write_all(STDOUT_FILENO, b": ");
-    io::print_decimal(STDOUT_FILENO, count_right(trial, n));
+    io::print_decimal(STDOUT_FILENO, count_successes(trial, n));
     io::write_all(STDOUT_FILENO, b" of ");
     io::print_decimal(STDOUT_FILENO, n);
     io::write_all(STDOUT_FILENO, b"\n");
 }
 
-// How many of the first n trials pass.
-fn count_right(trial: Trial, n: u64) -> u64 {
+// How many of the first n trials succeed.
+fn count_successes(trial: Trial, n: u64) -> u64 {
     let mut count = 0;
     for i in 0..n {
-        if passes(trial, i) {
+        if succeeds(trial, i) {
             count += 1;
         }
     }
     count
 }
 
-fn passes(trial: Trial, i: u64) -> bool {
+fn succeeds(trial: Trial, i: u64) -> bool {
     match trial {
         Trial::Marked => row_holds(i),
         Trial::Published => digits_crc() == 0xf4,
