@@ -122,6 +122,7 @@ placed (suc n) i s = pick (eqb (syndromeAt i) s) (eqb→eq (syndromeAt i) s) (pl
     pick false h (inl p) = let b : positionFrom n (suc i) s < suc i + n = p .0 in inl (omega arith, p .1)
     pick false h (inr e) = inr e
 
+-- a syndrome's position is one of the 72, or 255
 pub position-placed : (s : ℕ) → Placed 72 s (positionOf s)
 unfolding positionOf
 position-placed s = placed 72 0 s

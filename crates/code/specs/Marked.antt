@@ -6,7 +6,7 @@ use Rattle.code.specs.Code.{cell, syndromeOf, checkOf, positionOf, mende
 use Rattle.code.specs.Lists.{Every}
 use Rattle.code.specs.declared.marked.Marked.{Marked}
 
--- the words in document 01's order, each with the check byte that is named beside it; the last is syndrome BFh
+-- the words in document 01's order, each with the check byte that is named beside it; the last has the syndrome BFh
 unfoldable pub examples : List (ℕ × ℕ)
 examples =
     (0x0, 0x00)
