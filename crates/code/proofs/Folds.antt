@@ -1,4 +1,4 @@
--- The three folds of a number of 64 bits, as the code writes them, and the five that make a check byte.
+-- The three folds of a number of 64 bits, as the code writes them, the fold of a lane, and the five folds that make a check byte.
 -- Assumes nothing.
 use mathlib.Core.Path.{_≡_, refl, sym, ap, ap₂, _∙_}
 use Prim.Native.Nat.{ℕ, _+_, _-_, _*_, _/_, _%_, _^_, _≤_, _<_, zero-le}
@@ -10,6 +10,8 @@ use Rattle.code.specs.Code.{timesX, checkOf}
 use Rattle.code.specs.RemainderLaws.{upX, remainder-byte}
 use Rattle.code.specs.Fold.{Folded}
 use Rattle.code.specs.FoldLaws.{sums, folded}
+use Rattle.code.specs.Lanes.{lanes, inLanes, foldOf, Shortened}
+use Rattle.code.specs.LaneLaws.{lanes-four}
 
 -- bits that are moved down, and back up by no more, are all kept
 kept : (v j i : ℕ) → i ≤ j → v < 2 ^ 64 → v / 2 ^ j * 2 ^ i % 2 ^ 64 ≡ v / 2 ^ j * 2 ^ i
@@ -56,17 +58,48 @@ pub at8 : (v : ℕ) → v < 2 ^ 64
     → Folded 8 2 v (bitXor (bitXor (bitXor (bitAnd v 0xff) (v / 2 ^ 8)) (v / 2 ^ 8 * 2 ^ 1 % 2 ^ 64)) (v / 2 ^ 8 * 2 ^ 2 % 2 ^ 64))
 at8 v h = at-one 8 1 2 sums8 (lit≤ tt) (lit≤ tt) v h
 
--- ---- the folds that `check_byte` makes, one after the other
+-- the fold of a lane
+fold-of : (x : ℕ) → Folded 8 2 x (foldOf x)
+unfolding foldOf
+fold-of x =
+    folded 8 0 1 2 sums8 zero-le (lit≤ tt) x (x / 2 ^ 8) (x % 2 ^ 8) refl refl
+    (x % 2 ^ 8) (x / 2 ^ 8) (x / 2 ^ 8 * 2 ^ 1) (x / 2 ^ 8 * 2 ^ 2) refl (sym (mul-one (x / 2 ^ 8))) refl refl
 
-module _ (w r₁ r₂ r₃ r₄ r₅ : ℕ) (h : w < 2 ^ 64) (f₁ : Folded 40 6 (w * 256) r₁) (f₂ : Folded 16 4 r₁ r₂) (f₃ : Folded 16 4 r₂ r₃)
-    (f₄ : Folded 8 2 r₃ r₄) (f₅ : Folded 8 2 r₄ r₅) where
-  -- the folds leave 40, 28, 16, 10 and 8 bits
+-- ---- the folds that make a check byte, one after the other
+
+-- the first three leave 40, 28 and 16 bits
+pub shortened : (w r₁ r₂ r₃ : ℕ) → w < 2 ^ 64 → Folded 40 6 (w * 256) r₁ → Folded 16 4 r₁ r₂ → Folded 16 4 r₂ r₃ → Shortened w r₃
+unfolding checkOf
+shortened w r₁ r₂ r₃ h f₁ f₂ f₃ =
+    record {
+      small = f₃ .small 12 (lit≤ tt) (f₂ .small 24 (lit≤ tt) (f₁ .small 34 (lit≤ tt) (lt-of-lt-of-le (shl-lt 64 8 h) (lit≤ tt))));
+      same = f₃ .same ∙ f₂ .same ∙ f₁ .same;
+    }
+
+-- the last two leave 10 and 8
+module _ (w r₃ r₄ r₅ : ℕ) (s : Shortened w r₃) (f₄ : Folded 8 2 r₃ r₄) (f₅ : Folded 8 2 r₄ r₅) where
+  fourth-small : r₄ < 2 ^ 10
+  fourth-small = f₄ .small 8 (lit≤ tt) (s .small)
+
   pub last-small : r₅ < 256
-  last-small =
-      f₅ .small 6 (lit≤ tt)
-      (lt-of-lt-of-le (f₄ .small 8 (lit≤ tt) (f₃ .small 12 (lit≤ tt) (f₂ .small 24 (lit≤ tt)
-      (f₁ .small 34 (lit≤ tt) (lt-of-lt-of-le (shl-lt 64 8 h) (lit≤ tt)))))) (lit≤ tt))
+  last-small = f₅ .small 6 (lit≤ tt) (lt-of-lt-of-le fourth-small (lit≤ tt))
 
   pub last-check : r₅ ≡ checkOf w
-  unfolding checkOf
-  last-check = sym (remainder-byte r₅ last-small) ∙ f₅ .same ∙ f₄ .same ∙ f₃ .same ∙ f₂ .same ∙ f₁ .same
+  last-check = sym (remainder-byte r₅ last-small) ∙ f₅ .same ∙ f₄ .same ∙ s .same
+
+-- the last two, of a lane
+module _ (w r : ℕ) (s : Shortened w r) where
+  once-fits : foldOf r < 2 ^ 16
+  once-fits = lt-of-lt-of-le (fold-of r .small 8 (lit≤ tt) (s .small)) (lit≤ tt)
+
+  twice-check : foldOf (foldOf r) ≡ checkOf w
+  twice-check = last-check w r (foldOf r) (foldOf (foldOf r)) s (fold-of r) (fold-of (foldOf r))
+
+-- the last two, of four lanes
+pub four-checks : (a b c d w x y z p q r : ℕ) → Shortened a w → Shortened b x → Shortened c y → Shortened d z
+    → p ≡ lanes w x y z → q ≡ inLanes foldOf 4 p → r ≡ inLanes foldOf 4 q → r ≡ lanes (checkOf a) (checkOf b) (checkOf c) (checkOf d)
+four-checks a b c d w x y z p q r sa sb sc sd ep eq er =
+    er
+    ∙ ap (inLanes foldOf 4) (eq ∙ ap (inLanes foldOf 4) ep ∙ lanes-four foldOf w x y z (sa .small) (sb .small) (sc .small) (sd .small))
+    ∙ lanes-four foldOf (foldOf w) (foldOf x) (foldOf y) (foldOf z) (once-fits a w sa) (once-fits b x sb) (once-fits c y sc) (once-fits d z sd)
+    ∙ λ i. lanes (twice-check a w sa i) (twice-check b x sb i) (twice-check c y sc i) (twice-check d z sd i)

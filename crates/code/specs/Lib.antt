@@ -3,9 +3,11 @@ pub mod Positions
 pub mod Lists
 pub mod Marked
 pub mod Fold
+pub mod Lanes
 pub mod TestLaws
 pub mod XorLaws
 pub mod RemainderLaws
 pub mod CodeLaws
 pub mod MendLaws
 pub mod FoldLaws
+pub mod LaneLaws

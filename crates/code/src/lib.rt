@@ -4,6 +4,7 @@ ghost use Prim.Native.Nat.{_*_, _/_};
 ghost use Rattle.code.specs.Code.{cell, syndromeOf, isCodeword, checkOf, positionOf, bitAt, mendedWord};
 ghost use Rattle.code.specs.Fold.{Folded};
 
+pub mod lanes;
 pub mod marked;
 mod positions;
 

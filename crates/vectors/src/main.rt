@@ -1,8 +1,9 @@
-// Trials at run time: the code inside a chip against document 01's marked examples and against a CRC-8 made another way. Each line of
-// output says what was tried, how many trials succeeded, and of how many.
+// Trials at run time: the code inside a chip against document 01's marked examples and against a CRC-8 made another way, and visits to a
+// line that was made with that CRC-8. Each line of output says what was tried, how many trials succeeded, and of how many.
 use libc::STDOUT_FILENO;
 
 mod crc;
+mod visits;
 
 // What is tried. Trials of a kind are numbered from 0.
 enum Trial {
@@ -16,6 +17,16 @@ enum Trial {
     Word,
     // A codeword with one of its 72 bits inverted: the same, its position, and its word after mending.
     Damage,
+    // A line laid and read back.
+    Laid,
+    // Visits to a line: with one bit inverted, with one bit of two chips inverted, with damage to two chips that can't be undone, with
+    // codewords that don't xor to zero, and with words that are catch-words.
+    Rebuilt,
+    Mended,
+    RefusedMended,
+    RefusedParity,
+    Collision,
+    AllCollide,
 }
 
 fn main() {
@@ -36,6 +47,21 @@ fn main() {
         Trial::Damage,
         16 * 72,
     );
+    report(b"line laid and read back", Trial::Laid, 1);
+    report(b"one-bit damages of a line, rebuilt", Trial::Rebuilt, 648);
+    report(b"one-bit damages of two chips, mended", Trial::Mended, 648);
+    report(
+        b"damages of two chips, refused 21",
+        Trial::RefusedMended,
+        72,
+    );
+    report(
+        b"codewords with another parity, refused 20",
+        Trial::RefusedParity,
+        9,
+    );
+    report(b"collisions on each chip", Trial::Collision, 9);
+    report(b"collisions on all nine", Trial::AllCollide, 16);
 }
 
 fn report(what: &[u8], trial: Trial, n: u64) {
@@ -65,6 +91,13 @@ fn succeeds(trial: Trial, i: u64) -> bool {
         Trial::OneBitWord => agrees(word_bit(8 + i % 64), 0xff),
         Trial::Word => agrees(word_of(i), (word_of(i) / 256 % 256) as u8),
         Trial::Damage => mends(word_of(i / 72), i % 72),
+        Trial::Laid => visits::lays(),
+        Trial::Rebuilt => visits::rebuilds(i),
+        Trial::Mended => visits::mends(i),
+        Trial::RefusedMended => visits::refuses_mended(i),
+        Trial::RefusedParity => visits::refuses_parity(i),
+        Trial::Collision => visits::collides(i),
+        Trial::AllCollide => visits::all_collide(i),
     }
 }
 

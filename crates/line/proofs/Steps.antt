@@ -1,0 +1,227 @@
+-- What the steps of a visit come to, as the code makes them. m stands for the line's bytes, cws for the catch-words. Assumes nothing.
+use mathlib.Core.Path.{_≡_, refl, sym, ap, ap₂, _∙_}
+use mathlib.Core.Bool.{Bool, true, false, not, _&&_, cond}
+use mathlib.Core.List.{List}
+use Prim.Native.Nat.{ℕ, zero, suc, _+_, _<_, _≤_}
+use native.Mathlib.Omega.{arith}
+use lib.Bits.{bitAnd, bitXor, xor-comm}
+use lib.Count.{ones}
+use lib.Dec.{eqb, ltb}
+use lib.ListN.{length, getD}
+use borrow.Author.Tests.{eqb-true, eqb-false, lt-ltb}
+use Rattle.code.specs.Code.{mendedWord}
+use Rattle.code.specs.XorLaws.{xor-cancel-r}
+use Rattle.line.specs.Chips.{ofChips, joined, xorAll, bit, count, mask, inMask}
+use Rattle.line.specs.ChipLaws.{getD-ofChips, ofChips-ext, joined-ext, xorAll-ext, xorAll-but, count-none, count-le, in-mask, ones-mask, and-masks, rest-mask, mask-ext, mask-zero, mask-count, count-mask}
+use Rattle.line.specs.Cells.{wordAt, cellAt, chipAt, codeword}
+use Rattle.line.specs.ByteLaws.{Bytes}
+use Rattle.line.specs.CellLaws.{chips-line, held-word}
+use Rattle.line.specs.Visit.{catchWord, passOne, passThree, isCandidate, follows, isFlagged, isCollision, flaggedChips, mustCancel, xorOthers, outcomeBy, outcomeOf, wordBy, wordOf, writtenBack, bytesBy, bytesAfter, passesOf, reportOf}
+use Rattle.line.specs.VisitLaws.{flagged-is, sent-word, third-word}
+use Rattle.line.specs.declared.Report.{Report}
+use Rattle.line.specs.declared.Outcome.{Outcome}
+use Rattle.line.specs.declared.Outcome.the-variants.{Answered, Refused}
+
+-- ---- pass one and pass two
+
+-- the chips that are not in a mask
+others : (p : ℕ → Bool) → bitXor (mask p 9) 511 ≡ mask (λ k. not (p k)) 9
+unfolding mask
+others p = xor-comm (mask p 9) 511 ∙ rest-mask (λ k. true) p 9
+
+other : (a b : Bool) → (a && not (a && b)) ≡ (a && not b)
+other true b = refl
+other false b = refl
+
+module _ (m cws : List ℕ) where
+  -- the candidates that are not flagged are the collisions
+  pub collisions-rest : bitAnd (mask (isCandidate m cws) 9) (bitXor (mask (isFlagged m cws) 9) 511) ≡ mask (isCollision m cws) 9
+  unfolding isFlagged isCollision
+  collisions-rest =
+      ap (bitAnd (mask (isCandidate m cws) 9)) (others (isFlagged m cws))
+      ∙ and-masks (isCandidate m cws) (λ k. not (isFlagged m cws k)) 9
+      ∙ mask-ext _ (isCollision m cws) 9 (λ k l. other (isCandidate m cws k) (follows m cws k))
+
+  first : (a b : Bool) → (a && b) ≡ true → a ≡ true
+  first true b h = refl
+  first false b h = h
+
+  -- none flagged: pass two was made if there were candidates
+  pub few-passes : {c n : ℕ} → flaggedChips m cws ≡ 0 → c ≡ mask (isCandidate m cws) 9 → n ≡ cond (eqb c 0) 1 2 → n ≡ passesOf m cws
+  unfolding passesOf
+  few-passes {c} {n} none ec en = en ∙ pick (eqb c 0) refl
+    where
+      some : (n : ℕ) → (n ≡ 0 → ⊥) → 0 < n
+      some zero h = absurd (h refl)
+      some (suc n) h = omega arith
+
+      pick : (b : Bool) → eqb c 0 ≡ b → cond b 1 2 ≡ passesOf m cws
+      pick true e = rw (mask-count (isCandidate m cws) 9 (sym ec ∙ eqb-true c 0 e), none)
+      pick false e =
+          rw (lt-ltb 0 (count (isCandidate m cws) 9) (some _ (λ z. eqb-false c 0 e (ec ∙ count-mask (isCandidate m cws) 9 z))), none)
+
+  -- some flagged: there were candidates
+  pub more-passes : (n : ℕ) → flaggedChips m cws ≡ suc n → 2 + bit (ltb 1 (suc n)) ≡ passesOf m cws
+  unfolding passesOf flaggedChips isFlagged
+  more-passes n e =
+      let each : count (isFlagged m cws) 9 ≤ count (isCandidate m cws) 9 =
+      count-le (isFlagged m cws) (isCandidate m cws) 9 (λ k l. first (isCandidate m cws k) (follows m cws k)) in
+      rw (e, lt-ltb 0 (count (isCandidate m cws) 9) (omega arith))
+
+-- ---- steps 3 to 5
+
+-- a chip that is not flagged sent its word in pass one
+unflagged : (m cws : List ℕ) → Bytes m → (k : ℕ) → isFlagged m cws k ≡ false → passOne m cws k ≡ wordAt m k
+unflagged m cws bytes k e = sent-word m cws k (sym (flagged-is m cws k) ∙ e) ∙ held-word m k bytes
+
+-- an outcome, a number of passes and nine words are those of steps 3 to 5
+abbrev pub Found : List ℕ → List ℕ → Outcome → ℕ → List ℕ → Type 0
+Found m cws o n ws = (o ≡ outcomeOf m cws) × ((n ≡ passesOf m cws) × (ws ≡ ofChips (wordOf m cws) 9))
+
+module _ (m cws : List ℕ) (f p : ℕ) (ef : f ≡ mask (isFlagged m cws) 9) (ep : p ≡ xorAll (passOne m cws) 9) where
+  flags : (k : ℕ) → k < 9 → inMask f k ≡ isFlagged m cws k
+  flags k l = ap (λ (x : ℕ). inMask x k) ef ∙ in-mask (isFlagged m cws) 9 k l
+
+  chips : ones f ≡ flaggedChips m cws
+  unfolding flaggedChips
+  chips = ap ones ef ∙ ones-mask (isFlagged m cws) 9
+
+  -- none flagged
+  module _ (e : ones f ≡ 0) where
+    zero-chips : flaggedChips m cws ≡ 0
+    zero-chips = sym chips ∙ e
+
+    pub none-outcome : {o : Outcome} → o ≡ cond (eqb p 0) Answered (Refused 20) → o ≡ outcomeOf m cws
+    unfolding outcomeOf outcomeBy mustCancel
+    none-outcome q = rw (zero-chips, ← ep) q
+
+    none-words : Bytes m → {ws : List ℕ} → ws ≡ ofChips (wordAt m) 9 → ws ≡ ofChips (wordOf m cws) 9
+    unfolding wordOf wordBy flaggedChips
+    none-words bytes q =
+        q ∙ ofChips-ext (wordAt m) (wordOf m cws) 9
+        (λ k l. sym (ap (λ (n : ℕ). wordBy n m cws k) zero-chips ∙ unflagged m cws bytes k (count-none (isFlagged m cws) 9 zero-chips k l)))
+
+    pub none-found : Bytes m → {c n : ℕ} {o : Outcome} {ws : List ℕ} → c ≡ mask (isCandidate m cws) 9
+        → o ≡ cond (eqb p 0) Answered (Refused 20) → n ≡ cond (eqb c 0) 1 2 → ws ≡ ofChips (wordAt m) 9 → Found m cws o n ws
+    none-found bytes ec eo en ew = (none-outcome eo, (few-passes m cws zero-chips ec en, none-words bytes ew))
+
+  -- one flagged
+  module _ (e : ones f ≡ 1) where
+    one-chip : flaggedChips m cws ≡ 1
+    one-chip = sym chips ∙ e
+
+    one-outcome : Answered ≡ outcomeOf m cws
+    unfolding outcomeOf outcomeBy
+    one-outcome = rw one-chip
+
+    -- a flagged chip's catch-word, taken off the xor of all nine, leaves that of the other eight
+    taken-off : (k : ℕ) → k < 9 → isFlagged m cws k ≡ true → bitXor p (catchWord cws k) ≡ xorOthers (passOne m cws) k
+    unfolding isFlagged isCandidate xorOthers
+    taken-off k l t =
+        let sent : passOne m cws k ≡ catchWord cws k = eqb-true _ _ (first m cws _ _ t) in
+        ap₂ bitXor (ep ∙ xorAll-but (passOne m cws) 9 k l) (sym sent) ∙ xor-cancel-r _ (passOne m cws k)
+
+    one-words : Bytes m → {ws : List ℕ} → ws ≡ ofChips (λ k. cond (inMask f k) (bitXor p (catchWord cws k)) (wordAt m k)) 9
+        → ws ≡ ofChips (wordOf m cws) 9
+    unfolding wordOf wordBy
+    one-words bytes q =
+        q ∙ ofChips-ext _ (wordOf m cws) 9 (λ k l. ap (λ (b : Bool). cond b (bitXor p (catchWord cws k)) (wordAt m k)) (flags k l) ∙ pick k l (isFlagged m cws k) refl ∙ sym (ap (λ (n : ℕ). wordBy n m cws k) one-chip))
+      where
+        pick : (k : ℕ) → k < 9 → (b : Bool) → isFlagged m cws k ≡ b
+            → cond b (bitXor p (catchWord cws k)) (wordAt m k) ≡ cond (isFlagged m cws k) (xorOthers (passOne m cws) k) (passOne m cws k)
+        pick k l true t = rw t (taken-off k l t)
+        pick k l false t = rw t (sym (unflagged m cws bytes k t))
+
+    pub one-found : Bytes m → {ws : List ℕ} → ws ≡ ofChips (λ k. cond (inMask f k) (bitXor p (catchWord cws k)) (wordAt m k)) 9 → Found m cws Answered 2 ws
+    one-found bytes ew = (one-outcome, (more-passes m cws 0 one-chip, one-words bytes ew))
+
+  -- two or more flagged
+  module _ (n0 : ones f ≡ 0 → ⊥) (n1 : ones f ≡ 1 → ⊥) where
+    several : (P : ℕ → Type 0) → ((n : ℕ) → P (suc (suc n))) → P (flaggedChips m cws)
+    several P h = go (flaggedChips m cws) chips
+      where
+        go : (n : ℕ) → ones f ≡ n → P n
+        go zero q = absurd (n0 q)
+        go (suc zero) q = absurd (n1 q)
+        go (suc (suc n)) q = h n
+
+    several-passes : 3 ≡ passesOf m cws
+    several-passes =
+        several (λ n. flaggedChips m cws ≡ n → 3 ≡ passesOf m cws)
+        (λ n e. sym (ap (λ (b : Bool). 2 + bit b) (lt-ltb 1 (suc (suc n)) (omega arith))) ∙ more-passes m cws (suc n) e) refl
+
+    several-words : {ws : List ℕ} → ws ≡ ofChips (λ k. mendedWord (cellAt m k)) 9 → ws ≡ ofChips (wordOf m cws) 9
+    unfolding wordOf wordBy
+    several-words q =
+        q ∙ several (λ n. ofChips (λ k. mendedWord (cellAt m k)) 9 ≡ ofChips (wordBy n m cws) 9) (λ n. ofChips-ext _ _ 9 (λ k l. sym (third-word m cws k)))
+
+    several-outcome : {ws : List ℕ} {x : ℕ} {o : Outcome} → ws ≡ ofChips (λ k. mendedWord (cellAt m k)) 9 → x ≡ xorAll (λ k. getD ws k 0) 9
+        → o ≡ cond (eqb x 0) Answered (Refused 21) → o ≡ outcomeOf m cws
+    unfolding outcomeOf outcomeBy mustCancel
+    several-outcome {ws} {x} {o} q r s =
+        let third : x ≡ xorAll (passThree m cws) 9 =
+        r ∙ xorAll-ext (λ k. getD ws k 0) (passThree m cws) 9
+        (λ k l. ap (λ (t : List ℕ). getD t k 0) q ∙ getD-ofChips (λ j. mendedWord (cellAt m j)) 9 k l ∙ sym (third-word m cws k)) in
+        s ∙ ap (λ (y : ℕ). cond (eqb y 0) Answered (Refused 21)) third ∙ several (λ n. mustCancel (passThree m cws) 21 ≡ outcomeBy n m cws) (λ n. refl)
+
+    pub several-found : {ws : List ℕ} {x : ℕ} {o : Outcome} → ws ≡ ofChips (λ k. mendedWord (cellAt m k)) 9 → x ≡ xorAll (λ k. getD ws k 0) 9
+        → o ≡ cond (eqb x 0) Answered (Refused 21) → Found m cws o 3 ws
+    several-found ew ex eo = (several-outcome ew ex eo, (several-passes, several-words ew))
+
+-- ---- step 6
+
+abbrev pub report : Outcome → ℕ → ℕ → ℕ → Report
+report o p f x = record { outcome = o; passes = p; flagged = f; collisions = x }
+
+module _ (m cws : List ℕ) where
+  reported : {o : Outcome} {p f x : ℕ} → o ≡ outcomeOf m cws → p ≡ passesOf m cws → f ≡ mask (isFlagged m cws) 9 → x ≡ mask (isCollision m cws) 9
+      → report o p f x ≡ reportOf m cws
+  unfolding reportOf
+  reported eo ep ef ex = λ i. record { outcome = eo i; passes = ep i; flagged = ef i; collisions = ex i }
+
+  -- no candidates, and the words xor to zero: a clean line
+  module _ (none : mask (isCandidate m cws) 9 ≡ 0) where
+    no-candidate : (k : ℕ) (b : Bool) → k < 9 → (isCandidate m cws k && b) ≡ false
+    no-candidate k b l =
+        ap (λ (a : Bool). a && b) (count-none (isCandidate m cws) 9 (mask-count (isCandidate m cws) 9 none) k l)
+
+    no-flag : mask (isFlagged m cws) 9 ≡ 0
+    unfolding isFlagged
+    no-flag = mask-zero (isFlagged m cws) 9 (λ k l. no-candidate k (follows m cws k) l)
+
+    no-collision : mask (isCollision m cws) 9 ≡ 0
+    unfolding isCollision
+    no-collision = mask-zero (isCollision m cws) 9 (λ k l. no-candidate k (not (follows m cws k)) l)
+
+    pub clean-report : xorAll (passOne m cws) 9 ≡ 0 → report Answered 1 0 0 ≡ reportOf m cws
+    unfolding ones
+    clean-report z =
+        reported (none-outcome m cws 0 0 (sym no-flag) (sym z) refl refl)
+        (few-passes m cws (sym (chips m cws 0 0 (sym no-flag) (sym z))) (sym none) refl) (sym no-flag) (sym no-collision)
+
+    pub clean-bytes : length m ≡ 81 → m ≡ bytesAfter m cws
+    unfolding bytesAfter bytesBy writtenBack isFlagged
+    clean-bytes size = go (outcomeOf m cws)
+      where
+        go : (o : Outcome) → m ≡ bytesBy o m cws
+        go Answered = sym (chips-line m size) ∙ joined-ext (chipAt m) _ 9 (λ k l. rw (no-candidate k (follows m cws k) l))
+        go (Refused n) = refl
+
+  -- any line: the report, by what steps 1 to 5 gave
+  module _ {f : ℕ} (ef : f ≡ mask (isFlagged m cws) 9) {o : Outcome} (eo : o ≡ outcomeOf m cws) where
+    pub full-report : {c n : ℕ} → c ≡ mask (isCandidate m cws) 9 → n ≡ passesOf m cws → report o n f (bitAnd c (bitXor f 511)) ≡ reportOf m cws
+    full-report ec en = reported eo en ef (ap₂ (λ (x y : ℕ). bitAnd x (bitXor y 511)) ec ef ∙ collisions-rest m cws)
+
+    -- a refused line's bytes stay
+    pub refused-bytes : {n : ℕ} → o ≡ Refused n → m ≡ bytesAfter m cws
+    unfolding bytesAfter bytesBy
+    refused-bytes e = rw (sym eo ∙ e)
+
+    -- an answered line is written back
+    pub answered-bytes : o ≡ Answered → {ws t : List ℕ} → ws ≡ ofChips (wordOf m cws) 9
+        → t ≡ joined (λ k. cond (inMask f k) (codeword (getD ws k 0)) (chipAt m k)) 9 → t ≡ bytesAfter m cws
+    unfolding bytesAfter bytesBy writtenBack
+    answered-bytes e {ws} {t} q r =
+        r ∙ joined-ext _ (λ k. cond (isFlagged m cws k) (codeword (wordOf m cws k)) (chipAt m k)) 9
+        (λ k l. ap₂ (λ (b : Bool) (w : ℕ). cond b (codeword w) (chipAt m k)) (ap (λ (x : ℕ). inMask x k) ef ∙ in-mask (isFlagged m cws) 9 k l) (ap (λ (s : List ℕ). getD s k 0) q ∙ getD-ofChips (wordOf m cws) 9 k l))
+        ∙ ap (λ (u : Outcome). bytesBy u m cws) (sym e ∙ eo)

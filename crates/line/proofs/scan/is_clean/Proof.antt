@@ -1,0 +1,61 @@
+-- `line::scan::is_clean` meets its contract. Assumes nothing.
+use mathlib.Core.Path.{sym, _∙_}
+use borrow.Author.Tests.{eq-eqb, eqb-true, eqb-false, not-true, not-false}
+use Rattle.line.specs.ByteLaws.{Bytes}
+use Rattle.line.specs.ScanLaws.{same-test, fails, clean-made, clean-read}
+use borrow.Author.Needs.{needs}
+use Rattle.line.proofs.scan.is_clean.Statement.{statement}
+use Rattle.line.proofs.scan.is_clean.Tie as tie
+
+returns : tie.Need-returns
+returns c =
+    let x = c .before .before .before .args in
+    fails _ (λ t.
+    c .if1 .taken
+    (c .before .words .ensures
+    ∙ clean-read (x .line .now) (x .catch-words .now) (λ i. c .before .before .shared-slice-known .given i .fits) t .words))
+
+returns-2 : tie.Need-returns-2
+returns-2 c =
+    let x = c .before .before .before .before .before .args in
+    fails _ (λ t.
+    c .if2 .taken
+    (c .before .checks .ensures
+    ∙ clean-read (x .line .now) (x .catch-words .now) (λ i. c .before .before .before .before .shared-slice-known .given i .fits) t .checks))
+
+returns-3 : tie.Need-returns-3
+returns-3 c =
+    let x = c .before .before .before .before .before .before .before .args in
+    fails _ (λ t.
+    eqb-false _ 0 (sym (c .before .eight-sound .ensures) ∙ not-true _ (c .if3 .taken))
+    (clean-read (x .line .now) (x .catch-words .now) (λ i. c .before .before .before .before .before .before .shared-slice-known .given i .fits) t .eight))
+
+returns-4 : tie.Need-returns-4
+returns-4 c =
+    let s = c .before .before .before .before in
+    let x = s .before .before .before .before .args in
+    let bytes : Bytes (x .line .now) = λ i. s .before .before .before .shared-slice-known .given i .fits in
+    c .apart .ensures
+    ∙ same-test _ _
+    (λ t.
+    clean-made (x .line .now) (x .catch-words .now) bytes
+    (record {
+      words = sym (s .before .before .words .ensures) ∙ s .before .if1 .left;
+      checks = sym (s .checks .ensures) ∙ c .before .before .before .if2 .left;
+      eight = eqb-true _ 0 (sym (c .before .before .eight-sound .ensures) ∙ not-false _ (c .before .if3 .left));
+      apart = eqb-true _ 0 t;
+    }))
+    (λ t. eq-eqb _ 0 (clean-read (x .line .now) (x .catch-words .now) bytes t .apart))
+
+pub is-clean-spec : {M : Type 1} → statement M
+is-clean-spec =
+    tie.close
+    (tie.spec
+    (λ c κs. search needs)
+    returns
+    (λ c κs. search needs)
+    returns-2
+    (λ c κs. search needs)
+    returns-3
+    (λ c κs. search needs)
+    returns-4)

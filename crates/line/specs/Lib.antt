@@ -1,0 +1,11 @@
+pub mod Chips
+pub mod Cells
+pub mod Visit
+pub mod Scan
+pub mod Damage
+pub mod ChipLaws
+pub mod ByteLaws
+pub mod CellLaws
+pub mod VisitLaws
+pub mod ScanLaws
+pub mod DamageLaws

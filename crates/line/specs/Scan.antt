@@ -1,0 +1,21 @@
+-- A clean line, and what the test of one looks at. Definitions alone; what holds of them is in `ScanLaws`.
+use mathlib.Core.Bool.{Bool, _&&_}
+use mathlib.Core.List.{List}
+use Prim.Native.Nat.{ℕ, _+_}
+use lib.Dec.{eqb}
+use Rattle.code.specs.Lanes.{lanes}
+use Rattle.line.specs.Chips.{xorAll, mask}
+use Rattle.line.specs.Cells.{wordAt}
+use Rattle.line.specs.Visit.{catchWord, passOne, isCandidate}
+
+-- no chip is a candidate, and the nine words sent in pass one xor to zero
+unfoldable pub isClean : List ℕ → List ℕ → Bool
+isClean m cws = eqb (mask (isCandidate m cws) 9) 0 && eqb (xorAll (passOne m cws) 9) 0
+
+-- chip k's word is its catch-word
+abbrev pub meets : List ℕ → List ℕ → ℕ → Bool
+meets m cws k = eqb (wordAt m k) (catchWord cws k)
+
+-- f of the four chips from chip k on, each in its lane
+unfoldable pub fourFrom : (ℕ → ℕ) → ℕ → ℕ
+fourFrom f k = lanes (f k) (f (k + 1)) (f (k + 2)) (f (k + 3))

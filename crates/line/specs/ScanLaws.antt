@@ -1,0 +1,181 @@
+-- Laws of a clean line: it is one whose words and check bytes xor to zero, whose first eight chips hold codewords, and whose words are not
+-- their catch-words. m and cws are any lists.
+-- Assumes nothing.
+use mathlib.Core.Path.{_≡_, refl, sym, ap, ap₂, _∙_}
+use mathlib.Core.Bool.{Bool, true, false, not, _&&_, _||_}
+use mathlib.Core.List.{List}
+use Prim.Native.Nat.{ℕ, zero, suc, _+_, _*_, _^_, _<_}
+use native.Mathlib.Numerals.{towards-suc}
+use native.Mathlib.Omega.{arith}
+use lib.Bits.{bitXor}
+use lib.Dec.{eqb}
+use borrow.Author.Tests.{eq-eqb, eqb-true, not-false}
+use Rattle.code.specs.Code.{cell, syndromeOf, isCodeword, checkOf}
+use Rattle.code.specs.CodeLaws.{codeword-syndrome, syndrome-codeword, check-lt, check-makes, check-only, check-xor, check-zero}
+use Rattle.code.specs.Lanes.{lanes}
+use Rattle.code.specs.LaneLaws.{lanes-equal}
+use Rattle.code.specs.XorLaws.{xor-zero-eq}
+use Rattle.line.specs.Chips.{xorAll, bit, count, mask}
+use Rattle.line.specs.Cells.{wordAt, checkAt, cellAt}
+use Rattle.line.specs.ChipLaws.{xorAll-ext, count-none, count-next, count-zero, mask-zero, mask-count}
+use Rattle.line.specs.ByteLaws.{Bytes}
+use Rattle.line.specs.CellLaws.{held-word}
+use Rattle.line.specs.Visit.{catchWord, passOne, isCandidate}
+use Rattle.line.specs.VisitLaws.{unsound, matches, sent-word, candidate-is}
+use Rattle.line.specs.Scan.{isClean, meets, fourFrom}
+
+-- ---- tests
+
+-- two tests are equal where each shows the other
+pub same-test : (t u : Bool) → (t ≡ true → u ≡ true) → (u ≡ true → t ≡ true) → t ≡ u
+same-test true u f g = sym (f refl)
+same-test false true f g = g refl
+same-test false false f g = refl
+
+-- a test that shows what does not hold fails
+pub fails : (t : Bool) → (t ≡ true → ⊥) → false ≡ t
+fails true h = absurd (h refl)
+fails false h = refl
+
+-- both of two tests hold where their conjunction does
+and-first : (a b : Bool) → (a && b) ≡ true → a ≡ true
+and-first true b e = refl
+and-first false b e = e
+
+and-second : (a b : Bool) → (a && b) ≡ true → b ≡ true
+and-second true b e = e
+and-second false b e = absurd (omega (arith, ap bit e))
+
+-- ---- a chip that holds a codeword
+
+module _ (m : List ℕ) (bytes : Bytes m) where
+  held-lt : (k : ℕ) → checkAt m k < 256
+  unfolding checkAt
+  held-lt k = bytes (9 * k + 8)
+
+  -- its check byte is its word's
+  sound-check : (k : ℕ) → unsound m k ≡ false → checkAt m k ≡ checkOf (wordAt m k)
+  unfolding unsound cellAt
+  sound-check k e =
+      check-only (wordAt m k) (checkAt m k) (held-lt k) (codeword-syndrome (cellAt m k) (not-false (isCodeword (cellAt m k)) e))
+
+  -- and a chip whose check byte is its word's holds a codeword
+  check-sound : (k : ℕ) → checkAt m k ≡ checkOf (wordAt m k) → unsound m k ≡ false
+  unfolding unsound cellAt
+  check-sound k e =
+      ap not (syndrome-codeword (cellAt m k) (ap (λ (b : ℕ). syndromeOf (cell (wordAt m k) b)) e ∙ check-makes (wordAt m k)))
+
+  -- ---- four chips at a time
+
+  -- the next four chips hold codewords where their check bytes are those that their words ask for
+  pub four-more : (k : ℕ) → count (unsound m) k ≡ 0 → fourFrom (λ j. checkOf (wordAt m j)) k ≡ fourFrom (checkAt m) k
+      → count (unsound m) (k + 4) ≡ 0
+  unfolding fourFrom
+  four-more k none e =
+      let q = lanes-equal _ _ _ _ _ _ _ _ (asked-fits k) (asked-fits (k + 1)) (asked-fits (k + 2)) (held-fits k) (held-fits (k + 1)) (held-fits (k + 2)) e in
+      let e₁ : unsound m (k + 1) ≡ false = check-sound (k + 1) (sym (q .1)) in
+      let e₂ : unsound m (k + 2) ≡ false = check-sound (k + 2) (sym (q .2)) in
+      let e₃ : unsound m (k + 3) ≡ false = check-sound (k + 3) (sym (q .3)) in
+      simp towards-suc
+      (count-next (unsound m) _
+      (count-next (unsound m) _
+      (count-next (unsound m) _ (count-next (unsound m) k none (check-sound k (sym (q .0)))) (simp towards-suc at e₁))
+      (simp towards-suc at e₂))
+      (simp towards-suc at e₃))
+    where
+      asked-fits : (j : ℕ) → checkOf (wordAt m j) < 2 ^ 16
+      asked-fits j = omega (arith, check-lt (wordAt m j))
+
+      held-fits : (j : ℕ) → checkAt m j < 2 ^ 16
+      held-fits j = omega (arith, held-lt j)
+
+  -- where no chip below n holds anything else, the check bytes of four of them are those that their words ask for
+  pub four-equal : (n k : ℕ) → k + 3 < n → count (unsound m) n ≡ 0 → fourFrom (λ j. checkOf (wordAt m j)) k ≡ fourFrom (checkAt m) k
+  unfolding fourFrom
+  four-equal n k l none =
+      λ i. lanes (at k (omega arith) i) (at (k + 1) (omega arith) i) (at (k + 2) (omega arith) i) (at (k + 3) (omega arith) i)
+    where
+      at : (j : ℕ) → j < n → checkOf (wordAt m j) ≡ checkAt m j
+      at j h = sym (sound-check j (count-none (unsound m) n none j h))
+
+  -- ---- the xor of the check bytes
+
+  -- that of codewords is the check byte of the xor of their words
+  xor-checks : (n : ℕ) → count (unsound m) n ≡ 0 → xorAll (checkAt m) n ≡ checkOf (xorAll (wordAt m) n)
+  unfolding xorAll
+  xor-checks n none =
+      xorAll-ext (checkAt m) (λ k. checkOf (wordAt m k)) n (λ k l. sound-check k (count-none (unsound m) n none k l)) ∙ each-word n
+    where
+      each-word : (n : ℕ) → xorAll (λ k. checkOf (wordAt m k)) n ≡ checkOf (xorAll (wordAt m) n)
+      each-word zero = sym check-zero
+      each-word (suc n) = ap (λ (x : ℕ). bitXor x (checkOf (wordAt m n))) (each-word n) ∙ sym (check-xor (xorAll (wordAt m) n) (wordAt m n))
+
+  -- the last of n + 1 chips holds a codeword where the others do and the words and the check bytes xor to zero
+  last-sound : (n : ℕ) → xorAll (wordAt m) (suc n) ≡ 0 → xorAll (checkAt m) (suc n) ≡ 0 → count (unsound m) n ≡ 0 → unsound m n ≡ false
+  unfolding xorAll
+  last-sound n words checks none =
+      check-sound n
+      (sym (xor-zero-eq (xorAll (checkAt m) n) (checkAt m n) checks)
+      ∙ xor-checks n none
+      ∙ ap checkOf (xor-zero-eq (xorAll (wordAt m) n) (wordAt m n) words))
+
+-- ---- a clean line
+
+-- what a clean line comes to
+pub record Clean (m cws : List ℕ) : Type 0 where
+  pub words : xorAll (wordAt m) 9 ≡ 0
+  pub checks : xorAll (checkAt m) 9 ≡ 0
+  pub eight : count (unsound m) 8 ≡ 0
+  pub apart : count (meets m cws) 9 ≡ 0
+
+module _ (m cws : List ℕ) where
+  -- no chip is a candidate
+  pub clean-none : isClean m cws ≡ true → mask (isCandidate m cws) 9 ≡ 0
+  unfolding isClean
+  clean-none e = eqb-true _ 0 (and-first (eqb (mask (isCandidate m cws) 9) 0) (eqb (xorAll (passOne m cws) 9) 0) e)
+
+  -- the words sent xor to zero
+  pub clean-parity : isClean m cws ≡ true → xorAll (passOne m cws) 9 ≡ 0
+  unfolding isClean
+  clean-parity e = eqb-true _ 0 (and-second (eqb (mask (isCandidate m cws) 9) 0) (eqb (xorAll (passOne m cws) 9) 0) e)
+
+module _ (m cws : List ℕ) (bytes : Bytes m) where
+  -- chip k sends its word
+  sent : (k : ℕ) → unsound m k ≡ false → passOne m cws k ≡ wordAt m k
+  sent k e = sent-word m cws k e ∙ held-word m k bytes
+
+  -- it is a candidate where that is its catch-word
+  candidate : (k : ℕ) → unsound m k ≡ false → isCandidate m cws k ≡ meets m cws k
+  unfolding isCandidate
+  candidate k e = ap (λ (w : ℕ). eqb w (catchWord cws k)) (sent k e)
+
+  -- such a line is clean
+  pub clean-made : Clean m cws → isClean m cws ≡ true
+  unfolding isClean
+  clean-made c =
+      let nine : count (unsound m) 9 ≡ 0 = count-next (unsound m) 8 (c .eight) (last-sound m bytes 8 (c .words) (c .checks) (c .eight)) in
+      let sound : (k : ℕ) → k < 9 → unsound m k ≡ false = count-none (unsound m) 9 nine in
+      ap₂ _&&_
+      (eq-eqb _ 0 (mask-zero (isCandidate m cws) 9 (λ k l. candidate k (sound k l) ∙ count-none (meets m cws) 9 (c .apart) k l)))
+      (eq-eqb _ 0 (xorAll-ext (passOne m cws) (wordAt m) 9 (λ k l. sent k (sound k l)) ∙ c .words))
+
+  -- and a clean line is such
+  pub clean-read : isClean m cws ≡ true → Clean m cws
+  clean-read e =
+      let words : xorAll (wordAt m) 9 ≡ 0 = sym (xorAll-ext (passOne m cws) (wordAt m) 9 (λ k l. sent k (sound k l))) ∙ clean-parity m cws e in
+      record {
+        words = words;
+        checks = xor-checks m bytes 9 (count-zero (unsound m) 9 sound) ∙ ap checkOf words ∙ check-zero;
+        eight = count-zero (unsound m) 8 (λ k l. sound k (omega arith));
+        apart = count-zero (meets m cws) 9 (λ k l. sym (candidate k (sound k l)) ∙ none k l);
+      }
+    where
+      none : (k : ℕ) → k < 9 → isCandidate m cws k ≡ false
+      none = count-none (isCandidate m cws) 9 (mask-count (isCandidate m cws) 9 (clean-none m cws e))
+
+      neither : (a b : Bool) → (a || b) ≡ false → a ≡ false
+      neither true b h = h
+      neither false b h = refl
+
+      sound : (k : ℕ) → k < 9 → unsound m k ≡ false
+      sound k l = neither (unsound m k) (matches m cws k) (sym (candidate-is m cws k) ∙ none k l)

@@ -1,0 +1,302 @@
+-- The closed form of a visit. The flagged chips are those that hold no codeword, and the line's bytes alone decide the outcome, the words
+-- and the bytes after it; the catch-words decide the collisions, and with them whether pass two is made. m and cws are any lists.
+-- Assumes nothing.
+use mathlib.Core.Path.{_≡_, refl, sym, ap, _∙_}
+use mathlib.Core.Bool.{Bool, true, false, not, _&&_, _||_, cond}
+use mathlib.Core.List.{List}
+use Prim.Native.Nat.{ℕ, zero, suc, _+_, _/_, _^_, _<_}
+use native.Mathlib.Omega.{arith}
+use lib.Dec.{eqb, ltb, lit<}
+use lib.ListN.{length, take}
+use lib.Pow.{shr-lt}
+use borrow.Author.Tests.{eq-eqb, ne-eqb, eqb-true, eqb-false, not-false}
+use Rattle.code.specs.Code.{isCodeword, mendedWord}
+use Rattle.code.specs.CodeLaws.{codeword-syndrome}
+use Rattle.code.specs.MendLaws.{mendedWord-codeword, mendedWord-lt}
+use Rattle.line.specs.Chips.{joined, bit, count, mask}
+use Rattle.line.specs.Cells.{numberOf, wordAt, cellAt, chipAt, codeword}
+use Rattle.line.specs.ByteLaws.{Bytes, number-bytesOf}
+use Rattle.line.specs.CellLaws.{length-joined, chip-joined, length-chip, cell-fits, word-chip, held-word, length-codeword, eight-codeword}
+use Rattle.line.specs.ChipLaws.{joined-ext, xorAll-ext, xorAll-lt, count-ext, mask-ext, count-none, count-one}
+use Rattle.line.specs.Visit.{sends, sentAt, catchWord, passOne, isCandidate, complement, passTwo, follows, isFlagged, isCollision, flaggedChips, mustCancel, xorOthers, passThree, outcomeBy, wordBy, outcomeOf, wordOf, writtenBack, bytesBy, bytesAfter, passesOf}
+use Rattle.line.specs.declared.Outcome.{Outcome}
+use Rattle.line.specs.declared.Outcome.the-variants.{Answered, Refused}
+
+-- ---- the closed form. A name in With goes by how many chips hold no codeword, or by the outcome; the same name in For takes that from the line
+
+-- chip k's word as it stands
+abbrev pub heldWord : List ℕ → ℕ → ℕ
+heldWord m k = cellAt m k / 256
+
+-- M of chip k's nine bytes
+abbrev pub mendedAt : List ℕ → ℕ → ℕ
+mendedAt m k = mendedWord (cellAt m k)
+
+-- chip k holds no codeword
+unfoldable pub unsound : List ℕ → ℕ → Bool
+unsound m k = not (isCodeword (cellAt m k))
+
+-- chip k holds a codeword whose word is its catch-word
+unfoldable pub matches : List ℕ → List ℕ → ℕ → Bool
+matches m cws k = isCodeword (cellAt m k) && eqb (heldWord m k) (catchWord cws k)
+
+-- the outcome, by how many chips hold no codeword
+unfoldable pub outcomeWith : ℕ → List ℕ → Outcome
+outcomeWith zero m = mustCancel (heldWord m) 20
+outcomeWith (suc zero) m = Answered
+outcomeWith (suc (suc n)) m = mustCancel (mendedAt m) 21
+
+-- chip k's word, by how many chips hold no codeword
+unfoldable pub wordWith : ℕ → List ℕ → ℕ → ℕ
+wordWith zero m k = heldWord m k
+wordWith (suc zero) m k = cond (unsound m k) (xorOthers (heldWord m) k) (heldWord m k)
+wordWith (suc (suc n)) m k = mendedAt m k
+
+-- the bytes after a visit, by its outcome
+unfoldable pub bytesWith : Outcome → (ℕ → ℕ) → List ℕ → List ℕ
+bytesWith Answered words m = joined (λ k. cond (unsound m k) (codeword (words k)) (chipAt m k)) 9
+bytesWith (Refused number) words m = m
+
+-- the outcome of a visit by the line's bytes alone
+unfoldable pub outcomeFor : List ℕ → Outcome
+outcomeFor m = outcomeWith (count (unsound m) 9) m
+
+-- chip k's word by the line's bytes alone
+unfoldable pub wordFor : List ℕ → ℕ → ℕ
+wordFor m = wordWith (count (unsound m) 9) m
+
+-- the bytes after a visit by the line's bytes alone
+unfoldable pub bytesFor : List ℕ → List ℕ
+bytesFor m = bytesWith (outcomeFor m) (wordFor m) m
+
+-- ---- what a chip sends
+
+-- a chip that holds a codeword sends its word in pass one, whatever its catch-word
+pub sent-word : (m cws : List ℕ) (k : ℕ) → unsound m k ≡ false → passOne m cws k ≡ cellAt m k / 256
+unfolding unsound passOne sentAt sends
+sent-word m cws k h = rw (not-false (isCodeword (cellAt m k)) h)
+
+-- any chip sends M of its nine bytes in pass three
+pub third-word : (m cws : List ℕ) (k : ℕ) → passThree m cws k ≡ mendedAt m k
+unfolding passThree sentAt sends
+third-word m cws k = refl
+
+-- M of a codeword's nine bytes is its word
+sound-mended : (m : List ℕ) (k : ℕ) → unsound m k ≡ false → mendedAt m k ≡ heldWord m k
+unfolding unsound
+sound-mended m k h = mendedWord-codeword (cellAt m k) (codeword-syndrome (cellAt m k) (not-false (isCodeword (cellAt m k)) h))
+
+-- a chip that holds a codeword sends its word in pass three too
+pub sent-mended : (m cws : List ℕ) (k : ℕ) → unsound m k ≡ false → passThree m cws k ≡ cellAt m k / 256
+sent-mended m cws k h = third-word m cws k ∙ sound-mended m k h
+
+-- ---- which chips are flagged
+
+first-alone : (p q : Bool) → (p && q) ≡ false → (p && not q) ≡ p
+first-alone true true e = sym e
+first-alone true false e = refl
+first-alone false q e = refl
+
+-- b stands for whether a chip holds a codeword, w for its word, x for its catch-word and y for the complement
+module _ (w x y : ℕ) (ne : x ≡ y → ⊥) where
+  both : (b : Bool) → eqb w x ≡ b → (b && eqb w y) ≡ false
+  both true e = ne-eqb w y (λ f. ne (sym (eqb-true w x e) ∙ f))
+  both false e = refl
+
+  flag-law : (b : Bool) → (eqb (cond b w x) x && eqb (cond b w y) y) ≡ not b
+  flag-law true = both (eqb w x) refl
+  flag-law false = rw (eq-eqb x x refl, eq-eqb y y refl)
+
+  match-law : (b : Bool) → (eqb (cond b w x) x && not (eqb (cond b w y) y)) ≡ (b && eqb w x)
+  match-law true = first-alone (eqb w x) (eqb w y) (both (eqb w x) refl)
+  match-law false = rw (eq-eqb x x refl, eq-eqb y y refl)
+
+candidate-law : (w x : ℕ) (b : Bool) → eqb (cond b w x) x ≡ (not b || (b && eqb w x))
+candidate-law w x true = refl
+candidate-law w x false = eq-eqb x x refl
+
+module _ (m cws : List ℕ) where
+  complement-ne : (k : ℕ) → catchWord cws k ≡ complement cws k → ⊥
+  unfolding complement
+  complement-ne k e = omega arith
+
+  -- the flagged chips are those that hold no codeword
+  pub flagged-is : (k : ℕ) → isFlagged m cws k ≡ unsound m k
+  unfolding isFlagged isCandidate follows passOne passTwo sentAt sends unsound
+  flagged-is k = flag-law (heldWord m k) (catchWord cws k) (complement cws k) (complement-ne k) (isCodeword (cellAt m k))
+
+  -- the collisions are those whose codeword's word is their catch-word
+  pub collides-is : (k : ℕ) → isCollision m cws k ≡ matches m cws k
+  unfolding isCollision isCandidate follows passOne passTwo sentAt sends matches
+  collides-is k = match-law (heldWord m k) (catchWord cws k) (complement cws k) (complement-ne k) (isCodeword (cellAt m k))
+
+  -- the candidates are the chips of both kinds
+  pub candidate-is : (k : ℕ) → isCandidate m cws k ≡ (unsound m k || matches m cws k)
+  unfolding isCandidate passOne sentAt sends unsound matches
+  candidate-is k = candidate-law (heldWord m k) (catchWord cws k) (isCodeword (cellAt m k))
+
+  -- the flagged chips' mask is that of the chips that hold no codeword
+  pub flagged-mask : mask (isFlagged m cws) 9 ≡ mask (unsound m) 9
+  flagged-mask = mask-ext (isFlagged m cws) (unsound m) 9 (λ k _. flagged-is k)
+
+  -- the collisions' mask is that of the chips whose codeword's word is their catch-word
+  pub collisions-mask : mask (isCollision m cws) 9 ≡ mask (matches m cws) 9
+  collisions-mask = mask-ext (isCollision m cws) (matches m cws) 9 (λ k _. collides-is k)
+
+  -- as many chips are flagged as hold no codeword
+  pub flagged-count : flaggedChips m cws ≡ count (unsound m) 9
+  unfolding flaggedChips
+  flagged-count = count-ext (isFlagged m cws) (unsound m) 9 (λ k _. flagged-is k)
+
+-- ---- the outcome, the words, the bytes
+
+-- the xor of the chips other than k is the same for two functions that agree at those
+pub others-ext : (f g : ℕ → ℕ) (k : ℕ) → ((j : ℕ) → j < 9 → (j ≡ k → ⊥) → f j ≡ g j) → xorOthers f k ≡ xorOthers g k
+unfolding xorOthers
+others-ext f g k h = xorAll-ext _ _ 9 (λ j l. pick j l (eqb j k) refl)
+  where
+    pick : (j : ℕ) → j < 9 → (t : Bool) → eqb j k ≡ t → cond t 0 (f j) ≡ cond t 0 (g j)
+    pick j l true e = refl
+    pick j l false e = h j l (eqb-false j k e)
+
+-- where one chip holds no codeword, the others do
+pub others-sound : (m : List ℕ) → count (unsound m) 9 ≡ 1 → (k : ℕ) → k < 9 → unsound m k ≡ true
+    → (j : ℕ) → j < 9 → (j ≡ k → ⊥) → unsound m j ≡ false
+others-sound m c k h e j l ne = pick (unsound m j) refl
+  where
+    pick : (b : Bool) → unsound m j ≡ b → b ≡ false
+    pick true f = absurd (ne (count-one (unsound m) 9 (omega arith) j k l h f e))
+    pick false f = refl
+
+module _ (m cws : List ℕ) where
+  outcome-by : (n : ℕ) → count (unsound m) 9 ≡ n → outcomeBy n m cws ≡ outcomeWith n m
+  unfolding outcomeBy outcomeWith mustCancel
+  outcome-by zero c = rw (xorAll-ext (passOne m cws) (heldWord m) 9 (λ k h. sent-word m cws k (count-none (unsound m) 9 c k h)))
+  outcome-by (suc zero) c = refl
+  outcome-by (suc (suc n)) c = rw (xorAll-ext (passThree m cws) (mendedAt m) 9 (λ k h. third-word m cws k))
+
+  -- the outcome is that by the line's bytes alone
+  pub outcome-is : outcomeOf m cws ≡ outcomeFor m
+  unfolding outcomeOf outcomeFor
+  outcome-is = rw (flagged-count m cws) (outcome-by (count (unsound m) 9) refl)
+
+  word-by : (n : ℕ) → count (unsound m) 9 ≡ n → (k : ℕ) → k < 9 → wordBy n m cws k ≡ wordWith n m k
+  unfolding wordBy wordWith
+  word-by zero c k h = sent-word m cws k (count-none (unsound m) 9 c k h)
+  word-by (suc zero) c k h = rw (flagged-is m cws k) (pick (unsound m k) refl)
+    where
+      pick : (b : Bool) → unsound m k ≡ b
+          → cond b (xorOthers (passOne m cws) k) (passOne m cws k) ≡ cond b (xorOthers (heldWord m) k) (heldWord m k)
+      pick true e = others-ext (passOne m cws) (heldWord m) k (λ j l ne. sent-word m cws j (others-sound m c k h e j l ne))
+      pick false e = sent-word m cws k e
+  word-by (suc (suc n)) c k h = third-word m cws k
+
+  -- so is chip k's word, whether the line is answered or refused
+  pub word-is : (k : ℕ) → k < 9 → wordOf m cws k ≡ wordFor m k
+  unfolding wordOf wordFor
+  word-is k h = rw (flagged-count m cws) (word-by (count (unsound m) 9) refl k h)
+
+  written-is : (k : ℕ) → k < 9
+      → cond (isFlagged m cws k) (codeword (wordOf m cws k)) (chipAt m k) ≡ cond (unsound m k) (codeword (wordFor m k)) (chipAt m k)
+  written-is k h = rw (flagged-is m cws k, word-is k h)
+
+  bytes-by : (o : Outcome) → bytesBy o m cws ≡ bytesWith o (wordFor m) m
+  unfolding bytesBy bytesWith writtenBack
+  bytes-by Answered = joined-ext _ _ 9 written-is
+  bytes-by (Refused number) = refl
+
+  -- so are the bytes after the visit
+  pub bytes-is : bytesAfter m cws ≡ bytesFor m
+  unfolding bytesAfter bytesFor
+  bytes-is = rw outcome-is (bytes-by (outcomeFor m))
+
+-- ---- two lists of catch-words
+
+module _ (m c d : List ℕ) where
+  -- the outcome is the same for both
+  pub outcome-free : outcomeOf m c ≡ outcomeOf m d
+  outcome-free = outcome-is m c ∙ sym (outcome-is m d)
+
+  -- so is each chip's word
+  pub word-free : (k : ℕ) → k < 9 → wordOf m c k ≡ wordOf m d k
+  word-free k h = word-is m c k h ∙ sym (word-is m d k h)
+
+  -- so are the bytes after the visit
+  pub bytes-free : bytesAfter m c ≡ bytesAfter m d
+  bytes-free = bytes-is m c ∙ sym (bytes-is m d)
+
+  -- so is the mask of the flagged chips
+  pub flagged-free : mask (isFlagged m c) 9 ≡ mask (isFlagged m d) 9
+  flagged-free = flagged-mask m c ∙ sym (flagged-mask m d)
+
+-- ---- the passes
+
+-- pass two is made if a chip holds no codeword or its catch-word, pass three if two or more hold no codeword
+pub passes-is : (m cws : List ℕ)
+    → passesOf m cws ≡ 1 + bit (ltb 0 (count (λ k. unsound m k || matches m cws k) 9)) + bit (ltb 1 (count (unsound m) 9))
+unfolding passesOf
+passes-is m cws = rw (flagged-count m cws, count-ext (isCandidate m cws) (λ k. unsound m k || matches m cws k) 9 (λ k _. candidate-is m cws k))
+
+-- ---- the answered line
+
+module _ (m : List ℕ) (size : length m ≡ 81) (bytes : Bytes m) where
+  held-lt : (k : ℕ) → k < 9 → heldWord m k < 2 ^ 64
+  held-lt k l = shr-lt 64 8 (cell-fits m k size bytes l)
+
+  word-lt : (n k : ℕ) → k < 9 → wordWith n m k < 2 ^ 64
+  unfolding wordWith xorOthers
+  word-lt zero k l = held-lt k l
+  word-lt (suc zero) k l = pick (unsound m k)
+    where
+      other : (j : ℕ) → j < 9 → (b : Bool) → cond b 0 (heldWord m j) < 2 ^ 64
+      other j h true = lit< tt
+      other j h false = held-lt j h
+
+      pick : (b : Bool) → cond b (xorOthers (heldWord m) k) (heldWord m k) < 2 ^ 64
+      pick true = xorAll-lt _ 64 9 (λ j h. other j h (eqb j k))
+      pick false = held-lt k l
+  word-lt (suc (suc n)) k l = mendedWord-lt (cellAt m k) (cell-fits m k size bytes l)
+
+  -- a chip that holds a codeword keeps its word
+  word-kept : (n k : ℕ) → unsound m k ≡ false → wordWith n m k ≡ heldWord m k
+  unfolding wordWith
+  word-kept zero k e = refl
+  word-kept (suc zero) k e = rw e
+  word-kept (suc (suc n)) k e = sound-mended m k e
+
+  -- an answered line holds the words of steps 3 to 5
+  pub word-after : (cws : List ℕ) → outcomeOf m cws ≡ Answered → (k : ℕ) → k < 9 → wordAt (bytesAfter m cws) k ≡ wordOf m cws k
+  unfolding bytesFor bytesWith wordFor
+  word-after cws a k l =
+      ap (λ (n : List ℕ). wordAt n k) (bytes-is m cws ∙ ap (λ (o : Outcome). bytesWith o (wordFor m) m) (sym (outcome-is m cws) ∙ a))
+      ∙ word-chip _ k
+      ∙ ap (λ (bs : List ℕ). numberOf (take 8 bs)) (chip-joined after nine k l)
+      ∙ pick (unsound m k) refl
+      ∙ sym (word-is m cws k l)
+    where
+      after : ℕ → List ℕ
+      after j = cond (unsound m j) (codeword (wordFor m j)) (chipAt m j)
+
+      nine : (j : ℕ) → j < 9 → length (after j) ≡ 9
+      nine j h = either (unsound m j)
+        where
+          either : (b : Bool) → length (cond b (codeword (wordFor m j)) (chipAt m j)) ≡ 9
+          either true = length-codeword (wordFor m j)
+          either false = length-chip m j size h
+
+      pick : (b : Bool) → unsound m k ≡ b → numberOf (take 8 (cond b (codeword (wordFor m k)) (chipAt m k))) ≡ wordFor m k
+      pick true e = ap numberOf (eight-codeword (wordFor m k)) ∙ number-bytesOf 8 (wordFor m k) (word-lt (count (unsound m) 9) k l)
+      pick false e = sym (word-chip m k) ∙ sym (held-word m k bytes) ∙ sym (word-kept (count (unsound m) 9) k e)
+
+-- a visit leaves as many bytes as it found
+pub length-after : (m cws : List ℕ) → length m ≡ 81 → length (bytesAfter m cws) ≡ 81
+unfolding bytesAfter bytesBy writtenBack
+length-after m cws size = by (outcomeOf m cws)
+  where
+    nine : (k : ℕ) → k < 9 → (b : Bool) → length (cond b (codeword (wordOf m cws k)) (chipAt m k)) ≡ 9
+    nine k l true = length-codeword (wordOf m cws k)
+    nine k l false = length-chip m k size l
+
+    by : (o : Outcome) → length (bytesBy o m cws) ≡ 81
+    by Answered = length-joined _ 9 9 (λ k l. nine k l (isFlagged m cws k))
+    by (Refused number) = size

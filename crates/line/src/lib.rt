@@ -1,0 +1,190 @@
+// The nine chips of one line in its 81 lent bytes, and a visit to it (document 01, "A visit to a line").
+ghost use mathlib.Core.Path.{_≡_};
+ghost use mathlib.Core.Bool.{cond};
+ghost use lib.Bits.{bitXor};
+ghost use lib.Dec.{eqb};
+ghost use lib.ListN.{length, getD};
+ghost use Rattle.line.specs.Chips.{ofChips, joined, xorAll, mask, inMask};
+ghost use Rattle.line.specs.Cells.{wordAt, chipAt, codeword};
+ghost use Rattle.line.specs.Visit.{catchWord, passOne, isCandidate, isFlagged, outcomeOf, wordOf, bytesAfter, passesOf, reportOf, refusalOf};
+ghost use Rattle.line.specs.declared.Outcome.the-variants.{Answered, Refused};
+
+pub mod cells;
+mod chips;
+mod first;
+mod masks;
+mod scan;
+mod second;
+mod third;
+
+use first::Heard;
+
+// Refusals of a visit, by their number in document 01: none flagged and the words don't xor to zero; two or more flagged and the
+// mended words don't.
+const PARITY: u32 = 20;
+
+const MENDED: u32 = 21;
+
+// How a visit ends: with the line, or with the number of a refusal.
+pub enum Outcome {
+    Answered,
+    Refused(u32),
+}
+
+// What a visit reports: its outcome, the passes made, and the flagged and collision masks, bit K for chip K.
+pub struct Report {
+    pub outcome: Outcome,
+    pub passes: u32,
+    pub flagged: u32,
+    pub collisions: u32,
+}
+
+// A visit to a line. The chips' registers equal the catch-words. What the report does to the record is left to the caller.
+pub fn visit(line: &mut [u8], catch_words: &[u64; 9]) -> Report
+    requires { ⌜ (length (now line) ≡ 81) × (length (now «catch_words») ≡ 9) ⌝ }
+    ensures report { λ r. ⌜ r ≡ reportOf (now (line .entry)) (now («catch_words» .entry)) ⌝ }
+    ensures bytes { λ _. ⌜ now (line .exit) ≡ bytesAfter (now (line .entry)) (now («catch_words» .entry)) ⌝ }
+{
+    // A clean line has no candidates and words that xor to zero, so that steps 2 to 6 leave it as it is.
+    if scan::is_clean(line, catch_words) {
+        return Report {
+            outcome: Outcome::Answered,
+            passes: 1,
+            flagged: 0,
+            collisions: 0,
+        };
+    }
+    // Step 1.
+    let heard = first::pass(line, catch_words);
+    let candidates = heard.candidates;
+    // Step 2. Without candidates it asks no chip.
+    let flagged = second::pass(line, catch_words, candidates);
+    let collisions = candidates & (flagged ^ masks::CHIPS);
+    // Steps 3 to 5.
+    let found = resolve(line, catch_words, heard, flagged);
+    let outcome = found.outcome;
+    let passes = found.passes;
+    // Step 6. Only an answered line is written back.
+    let Outcome::Answered = outcome else {
+        return Report {
+            outcome,
+            passes,
+            flagged,
+            collisions,
+        };
+    };
+    let words = found.words;
+    write_back(line, flagged, words);
+    Report {
+        outcome,
+        passes,
+        flagged,
+        collisions,
+    }
+}
+
+// The number of a refusal in document 01, 0 for an answer.
+pub fn refusal(outcome: Outcome) -> u32
+    ensures { λ r. ⌜ r ≡ refusalOf outcome ⌝ }
+{
+    match outcome {
+        Outcome::Answered => 0,
+        Outcome::Refused(number) => number,
+    }
+}
+
+// What steps 3 to 5 find: the outcome, the passes made by then, and the nine words.
+struct Found {
+    outcome: Outcome,
+    passes: u32,
+    words: [u64; 9],
+}
+
+// Steps 3 to 5, by how many chips are flagged.
+fn resolve(line: &[u8], catch_words: &[u64; 9], heard: Heard, flagged: u32) -> Found
+    requires sizes { ⌜ (length (now line) ≡ 81) × (length (now «catch_words») ≡ 9) ⌝ }
+    requires candidates { ⌜ heard .candidates ≡ mask (isCandidate (now line) (now «catch_words»)) 9 ⌝ }
+    requires parity { ⌜ heard .parity ≡ xorAll (passOne (now line) (now «catch_words»)) 9 ⌝ }
+    requires flagged { ⌜ flagged ≡ mask (isFlagged (now line) (now «catch_words»)) 9 ⌝ }
+    ensures outcome { λ r. ⌜ r .outcome ≡ outcomeOf (now (line .entry)) (now («catch_words» .entry)) ⌝ }
+    ensures passes { λ r. ⌜ r .passes ≡ passesOf (now (line .entry)) (now («catch_words» .entry)) ⌝ }
+    ensures words { λ r. ⌜ r .words ≡ ofChips (wordOf (now (line .entry)) (now («catch_words» .entry))) 9 ⌝ }
+{
+    let chips = u32::count_ones(flagged);
+    if chips == 0 {
+        let outcome = must_cancel(heard.parity, PARITY);
+        let passes = passes_to_two(heard.candidates);
+        let words = cells::words(line);
+        return Found {
+            outcome,
+            passes,
+            words,
+        };
+    }
+    if chips == 1 {
+        let words = rebuilt(line, catch_words, flagged, heard.parity);
+        return Found {
+            outcome: Outcome::Answered,
+            passes: 2,
+            words,
+        };
+    }
+    let words = third::pass(line);
+    let mended = third::xor_all(words);
+    let outcome = must_cancel(mended, MENDED);
+    Found {
+        outcome,
+        passes: 3,
+        words,
+    }
+}
+
+// The passes made where there is no pass three: pass two is made if there are candidates.
+fn passes_to_two(candidates: u32) -> u32
+    ensures { λ r. ⌜ r ≡ cond (eqb candidates 0) 1 2 ⌝ }
+{
+    if candidates == 0 { 1 } else { 2 }
+}
+
+// Words must xor to zero, else they are refused by a number.
+fn must_cancel(parity: u64, number: u32) -> Outcome
+    ensures { λ r. ⌜ r ≡ cond (eqb parity 0) Answered (Refused number) ⌝ }
+{
+    if parity == 0 {
+        Outcome::Answered
+    } else {
+        Outcome::Refused(number)
+    }
+}
+
+// The nine words where one chip is flagged. That chip sent its catch-word, which is taken off the xor of all nine.
+fn rebuilt(line: &[u8], catch_words: &[u64; 9], flagged: u32, parity: u64) -> [u64; 9]
+    requires { ⌜ (length (now line) ≡ 81) × (length (now «catch_words») ≡ 9) ⌝ }
+    ensures { λ r. ⌜ r ≡ ofChips (λ k. cond (inMask flagged k) (bitXor parity (catchWord (now («catch_words» .entry)) k)) (wordAt (now (line .entry)) k)) 9 ⌝ }
+{
+    let mut words = [0u64; 9];
+    for k in 0..9 {
+        let flag = masks::member(flagged, k);
+        let own = catch_words[k];
+        words[k] = choose(flag, parity ^ own, cells::word_at(line, k));
+    }
+    words
+}
+
+// The first of two words where a test holds, else the second.
+fn choose(test: bool, a: u64, b: u64) -> u64
+    ensures { λ r. ⌜ r ≡ cond test a b ⌝ }
+{
+    if test { a } else { b }
+}
+
+// Each flagged chip gets its word and check byte.
+fn write_back(line: &mut [u8], flagged: u32, words: [u64; 9])
+    requires { ⌜ length (now line) ≡ 81 ⌝ }
+    ensures { λ _. ⌜ now (line .exit) ≡ joined (λ k. cond (inMask flagged k) (codeword (getD words k 0)) (chipAt (now (line .entry)) k)) 9 ⌝ }
+{
+    for k in 0..9 {
+        let flag = masks::member(flagged, k);
+        cells::lay_if(flag, line, k, words[k]);
+    }
+}
