@@ -12,12 +12,12 @@ use borrow.Author.Tests.{eqb-true, eqb-false, lt-ltb}
 use Rattle.code.specs.Code.{mendedWord}
 use Rattle.code.specs.XorLaws.{xor-cancel-r}
 use Rattle.line.specs.Chips.{ofChips, joined, xorAll, bit, count, mask, inMask}
-use Rattle.line.specs.ChipLaws.{getD-ofChips, ofChips-ext, joined-ext, xorAll-ext, xorAll-but, count-none, count-le, in-mask, ones-mask, and-masks, rest-mask, mask-ext, mask-zero, mask-count, count-mask}
+use Rattle.line.specs.ChipLaws.{and-first, getD-ofChips, ofChips-ext, joined-ext, xorAll-ext, xorAll-but, count-none, count-le, in-mask, ones-mask, and-masks, rest-mask, mask-ext, mask-zero, mask-count, count-mask}
 use Rattle.line.specs.Cells.{wordAt, cellAt, chipAt, codeword}
 use Rattle.line.specs.ByteLaws.{Bytes}
-use Rattle.line.specs.CellLaws.{chips-line, held-word}
+use Rattle.line.specs.CellLaws.{chips-line}
 use Rattle.line.specs.Visit.{catchWord, passOne, passThree, isCandidate, follows, isFlagged, isCollision, flaggedChips, mustCancel, xorOthers, outcomeBy, outcomeOf, wordBy, wordOf, writtenBack, bytesBy, bytesAfter, passesOf, reportOf}
-use Rattle.line.specs.VisitLaws.{flagged-is, sent-word, third-word}
+use Rattle.line.specs.VisitLaws.{flagged-is, sent-held, third-word}
 use Rattle.line.specs.declared.Report.{Report}
 use Rattle.line.specs.declared.Outcome.{Outcome}
 use Rattle.line.specs.declared.Outcome.the-variants.{Answered, Refused}
@@ -42,10 +42,6 @@ module _ (m cws : List ℕ) where
       ∙ and-masks (isCandidate m cws) (λ k. not (isFlagged m cws k)) 9
       ∙ mask-ext _ (isCollision m cws) 9 (λ k l. other (isCandidate m cws k) (follows m cws k))
 
-  first : (a b : Bool) → (a && b) ≡ true → a ≡ true
-  first true b h = refl
-  first false b h = h
-
   -- none flagged: pass two was made if there were candidates
   pub few-passes : {c n : ℕ} → flaggedChips m cws ≡ 0 → c ≡ mask (isCandidate m cws) 9 → n ≡ cond (eqb c 0) 1 2 → n ≡ passesOf m cws
   unfolding passesOf
@@ -65,14 +61,14 @@ module _ (m cws : List ℕ) where
   unfolding passesOf flaggedChips isFlagged
   more-passes n e =
       let each : count (isFlagged m cws) 9 ≤ count (isCandidate m cws) 9 =
-      count-le (isFlagged m cws) (isCandidate m cws) 9 (λ k l. first (isCandidate m cws k) (follows m cws k)) in
+      count-le (isFlagged m cws) (isCandidate m cws) 9 (λ k l. and-first (isCandidate m cws k) (follows m cws k)) in
       rw (e, lt-ltb 0 (count (isCandidate m cws) 9) (omega arith))
 
 -- ---- steps 3 to 5
 
 -- a chip that is not flagged sent its word in pass one
 unflagged : (m cws : List ℕ) → Bytes m → (k : ℕ) → isFlagged m cws k ≡ false → passOne m cws k ≡ wordAt m k
-unflagged m cws bytes k e = sent-word m cws k (sym (flagged-is m cws k) ∙ e) ∙ held-word m k bytes
+unflagged m cws bytes k e = sent-held m cws k bytes (sym (flagged-is m cws k) ∙ e)
 
 -- an outcome, a number of passes and nine words are those of steps 3 to 5
 abbrev pub Found : List ℕ → List ℕ → Outcome → ℕ → List ℕ → Type 0
@@ -118,7 +114,7 @@ module _ (m cws : List ℕ) (f p : ℕ) (ef : f ≡ mask (isFlagged m cws) 9) (e
     taken-off : (k : ℕ) → k < 9 → isFlagged m cws k ≡ true → bitXor p (catchWord cws k) ≡ xorOthers (passOne m cws) k
     unfolding isFlagged isCandidate xorOthers
     taken-off k l t =
-        let sent : passOne m cws k ≡ catchWord cws k = eqb-true _ _ (first m cws _ _ t) in
+        let sent : passOne m cws k ≡ catchWord cws k = eqb-true _ _ (and-first _ _ t) in
         ap₂ bitXor (ep ∙ xorAll-but (passOne m cws) 9 k l) (sym sent) ∙ xor-cancel-r _ (passOne m cws k)
 
     one-words : Bytes m → {ws : List ℕ} → ws ≡ ofChips (λ k. cond (inMask f k) (bitXor p (catchWord cws k)) (wordAt m k)) 9

@@ -1,11 +1,11 @@
 -- Laws of a line's bytes: what stands in each chip, what laying one chip does, and reading back what was laid.
 -- Assumes nothing.
 use mathlib.Core.Path.{_≡_, refl, sym, ap, ap₂, _∙_, subst}
-use mathlib.Core.Logic.{⊎-elim, _≢_}
+use mathlib.Core.Logic.{_≢_}
 use mathlib.Core.Bool.{Bool, true, false}
 use mathlib.Core.List.{List, [], _∷_, _++_, append-nil, append-assoc}
 use Prim.Native.Nat.{ℕ, zero, suc, _+_, _-_, _*_, _/_, _^_, _≤_, _<_}
-use native.Mathlib.Nat.{mul-zero, mul-suc, mul-le-mul-left, eq-or-lt-of-le, le-of-suc-le-suc, not-suc-le-zero}
+use native.Mathlib.Nat.{mul-zero, mul-suc, mul-le-mul-left, not-suc-le-zero}
 use native.Mathlib.Omega.{arith}
 use lib.Arith.{lt-of-le-ne}
 use lib.Dec.{ltb, lit<, lit≤}
@@ -15,7 +15,7 @@ use borrow.Author.Tests.{lt-ltb, ltb-true, ltb-false}
 use Rattle.code.specs.Code.{cell, checkOf, remainder, remainderIn}
 use Rattle.code.specs.CodeLaws.{check-lt, cell-word}
 use Rattle.line.specs.Chips.{joined, xorAll}
-use Rattle.line.specs.ChipLaws.{joined-ext}
+use Rattle.line.specs.ChipLaws.{last, joined-ext}
 use Rattle.line.specs.Cells.{numberOf, bytesOf, bytesFrom, chipAt, wordAt, checkAt, cellAt, codeword, withChip, eightAt, lineWord, stored, lineOf}
 use Rattle.line.specs.ByteLaws.{Bytes, bytes-append, bytes-cons, bytes-bytesOf, bytes-bytesFrom, length-bytesOf, length-bytesFrom, number-snoc, number-bytesOf, number-lt, bytesOf-number, bytesFrom-suc}
 
@@ -34,7 +34,7 @@ module _ (f : ℕ → List ℕ) (w : ℕ) where
   joined-at zero h k l = absurd (not-suc-le-zero l)
   joined-at (suc n) h k l =
       let long : length (joined f n) ≡ w * n = length-joined n (λ k l. h k (omega arith)) in
-      ⊎-elim
+      last l
       (λ (e : k ≡ n).
       ap (λ (j : ℕ). take w (drop (w * j) (joined f n ++ f n))) e
       ∙ ap (take w) (drop-at (joined f n) (f n) (w * n) long)
@@ -45,7 +45,6 @@ module _ (f : ℕ → List ℕ) (w : ℕ) where
       ap (take w) (drop-append-le (w * k) (joined f n) (f n) (omega arith))
       ∙ take-append-le w (drop (w * k) (joined f n)) (f n) (omega (arith, length-drop (w * k) (joined f n)))
       ∙ joined-at n (λ k l. h k (omega arith)) k g)
-      (eq-or-lt-of-le (le-of-suc-le-suc l))
 
   -- k blocks were stored over m, and block k is next
   module _ (m : List ℕ) (k : ℕ) (h : (j : ℕ) → j < suc k → length (f j) ≡ w) (fits : w * suc k ≤ length m) where

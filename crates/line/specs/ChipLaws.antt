@@ -19,8 +19,17 @@ use lib.Count.{ones, onesIn, ones-cat}
 use Rattle.code.specs.XorLaws.{xor-four}
 use Rattle.line.specs.Chips.{ofChips, joined, xorAll, bit, count, mask, inMask}
 
--- the number k below n + 1 is n or below n
-last : {A : Type 0} {k n : ℕ} → k < suc n → (k ≡ n → A) → (k < n → A) → A
+-- both of two tests hold where their conjunction does
+pub and-first : (a b : Bool) → (a && b) ≡ true → a ≡ true
+and-first true b e = refl
+and-first false b e = e
+
+pub and-second : (a b : Bool) → (a && b) ≡ true → b ≡ true
+and-second true b e = e
+and-second false b e = absurd (omega (arith, ap bit e))
+
+-- a number k below n + 1 is n or below n
+pub last : {A : Type 0} {k n : ℕ} → k < suc n → (k ≡ n → A) → (k < n → A) → A
 last h f g = ⊎-elim f g (eq-or-lt-of-le (le-of-suc-le-suc h))
 
 -- ---- values

@@ -2,11 +2,10 @@
 -- that were stored, and its bytes are whole again, or it is refused with 21 and its bytes stay.
 -- Assumes nothing.
 use mathlib.Core.Path.{_≡_, refl, sym, ap, ap₂, _∙_, subst}
-use mathlib.Core.Logic.{⊎-elim}
 use mathlib.Core.Bool.{Bool, true, false, not, _||_, cond, true≢false}
 use mathlib.Core.List.{List}
 use Prim.Native.Nat.{ℕ, zero, suc, _/_, _^_, _<_, _≤_}
-use native.Mathlib.Nat.{le-trans, eq-or-lt-of-le, le-of-suc-le-suc}
+use native.Mathlib.Nat.{le-trans}
 use native.Mathlib.Omega.{arith}
 use lib.Bits.{bitXor, xor-self, xor-zero-r}
 use lib.Count.{ones}
@@ -22,9 +21,10 @@ use Rattle.line.specs.Cells.{numberOf, cellAt, chipAt, codeword, withChi
 use Rattle.line.specs.ByteLaws.{Bytes, number-lt, number-xor, zeros-only, length-xor, xor-zeros, xor-bytes-assoc}
 use Rattle.line.specs.CellLaws.{length-joined, chip-joined, same-chips, length-chip, cell-number, length-withChip, chip-laid, chip-other, length-codeword, bytes-codeword, number-codeword, lineWord-eight, lineWord-parity, eight-lt, line-stored}
 use Rattle.line.specs.Damage.{damaged, Parity, Premise, damages, undone, answers}
-use Rattle.line.specs.ChipLaws.{joined-ext, xorAll-ext, xorAll-lt, xorAll-xor, xorAll-but, xorAll-few, count-ext, count-none, count-le}
-use Rattle.line.specs.Visit.{isFlagged, flaggedChips, mustCancel, xorOthers, outcomeOf, wordOf, bytesAfter}
-use Rattle.line.specs.VisitLaws.{heldWord, mendedAt, unsound, outcomeWith, wordWith, bytesWith, outcomeFor, wordFor, bytesFor, flagged-is, flagged-count, others-ext, others-sound, outcome-is, word-is, bytes-is}
+use Rattle.line.specs.ChipLaws.{last, joined-ext, xorAll-ext, xorAll-lt, xorAll-xor, xorAll-but, xorAll-few, count-ext, count-none, count-le}
+use Rattle.line.specs.Visit.{isFlagged, mustCancel, xorOthers, outcomeOf, wordOf, bytesAfter}
+use Rattle.line.specs.Scan.{unsound}
+use Rattle.line.specs.VisitLaws.{heldWord, mendedAt, outcomeWith, wordWith, bytesWith, outcomeFor, wordFor, bytesFor, flagged-is, others-ext, others-sound, outcome-is, word-is, bytes-is}
 use Rattle.line.specs.declared.Outcome.{Outcome}
 use Rattle.line.specs.declared.Outcome.the-variants.{Answered, Refused}
 
@@ -110,10 +110,9 @@ pub line-parity : (d : List ℕ) → length d ≡ 64 → Bytes d → Parity (lin
 unfolding xorAll
 line-parity d size bytes = record {
   fit = λ k l.
-      ⊎-elim
+      last l
       (λ (e : k ≡ 8). subst (λ (x : ℕ). x < 2 ^ 64) (sym (ap (lineWord d) e ∙ lineWord-parity d size)) (xorAll-lt (eightAt d) 64 8 (eight-lt d size bytes)))
-      (λ (g : k < 8). subst (λ (x : ℕ). x < 2 ^ 64) (sym (lineWord-eight d size k g)) (eight-lt d size bytes k g))
-      (eq-or-lt-of-le (le-of-suc-le-suc l));
+      (λ (g : k < 8). subst (λ (x : ℕ). x < 2 ^ 64) (sym (lineWord-eight d size k g)) (eight-lt d size bytes k g));
   sum = ap₂ bitXor (xorAll-ext (lineWord d) (eightAt d) 8 (lineWord-eight d size)) (lineWord-parity d size) ∙ xor-self (xorAll (eightAt d) 8);
 }
 
@@ -234,10 +233,6 @@ module _ (m : List ℕ) (w p : ℕ → ℕ) (par : Parity w) (b : Premise p) (fi
     pub step-bytes : bytesAfter m cws ≡ cond (answers p) (stored w) m
     unfolding bytesFor
     step-bytes = bytes-is m cws ∙ ap (λ (o : Outcome). bytesWith o (wordFor m) m) outcome-for ∙ bytes-with (answers p) refl
-
-    -- as many chips are flagged as are damaged
-    pub step-flagged : flaggedChips m cws ≡ damages p
-    step-flagged = flagged-count m cws ∙ unsound-count
 
 -- ---- the same for the bytes of nine codewords, each xored with its chip's pattern
 

@@ -1,5 +1,5 @@
 -- Laws of a clean line: it is one whose words and check bytes xor to zero, whose first eight chips hold codewords, and whose words are not
--- their catch-words. m and cws are any lists.
+-- their catch-words. m is the line's bytes.
 -- Assumes nothing.
 use mathlib.Core.Path.{_≡_, refl, sym, ap, ap₂, _∙_}
 use mathlib.Core.Bool.{Bool, true, false, not, _&&_, _||_}
@@ -15,14 +15,13 @@ use Rattle.code.specs.CodeLaws.{codeword-syndrome, syndrome-codeword, check-lt,
 use Rattle.code.specs.Lanes.{lanes}
 use Rattle.code.specs.LaneLaws.{lanes-equal}
 use Rattle.code.specs.XorLaws.{xor-zero-eq}
-use Rattle.line.specs.Chips.{xorAll, bit, count, mask}
+use Rattle.line.specs.Chips.{xorAll, count, mask}
 use Rattle.line.specs.Cells.{wordAt, checkAt, cellAt}
-use Rattle.line.specs.ChipLaws.{xorAll-ext, count-none, count-next, count-zero, mask-zero, mask-count}
+use Rattle.line.specs.ChipLaws.{and-first, and-second, xorAll-ext, count-none, count-next, count-zero, mask-zero, mask-count}
 use Rattle.line.specs.ByteLaws.{Bytes}
-use Rattle.line.specs.CellLaws.{held-word}
 use Rattle.line.specs.Visit.{catchWord, passOne, isCandidate}
-use Rattle.line.specs.VisitLaws.{unsound, matches, sent-word, candidate-is}
-use Rattle.line.specs.Scan.{isClean, meets, fourFrom}
+use Rattle.line.specs.VisitLaws.{matches, sent-held, candidate-is}
+use Rattle.line.specs.Scan.{isClean, unsound, meets, fourFrom}
 
 -- ---- tests
 
@@ -37,27 +36,18 @@ pub fails : (t : Bool) → (t ≡ true → ⊥) → false ≡ t
 fails true h = absurd (h refl)
 fails false h = refl
 
--- both of two tests hold where their conjunction does
-and-first : (a b : Bool) → (a && b) ≡ true → a ≡ true
-and-first true b e = refl
-and-first false b e = e
-
-and-second : (a b : Bool) → (a && b) ≡ true → b ≡ true
-and-second true b e = e
-and-second false b e = absurd (omega (arith, ap bit e))
-
 -- ---- a chip that holds a codeword
 
 module _ (m : List ℕ) (bytes : Bytes m) where
-  held-lt : (k : ℕ) → checkAt m k < 256
+  check-fits : (k : ℕ) → checkAt m k < 256
   unfolding checkAt
-  held-lt k = bytes (9 * k + 8)
+  check-fits k = bytes (9 * k + 8)
 
   -- its check byte is its word's
   sound-check : (k : ℕ) → unsound m k ≡ false → checkAt m k ≡ checkOf (wordAt m k)
   unfolding unsound cellAt
   sound-check k e =
-      check-only (wordAt m k) (checkAt m k) (held-lt k) (codeword-syndrome (cellAt m k) (not-false (isCodeword (cellAt m k)) e))
+      check-only (wordAt m k) (checkAt m k) (check-fits k) (codeword-syndrome (cellAt m k) (not-false (isCodeword (cellAt m k)) e))
 
   -- and a chip whose check byte is its word's holds a codeword
   check-sound : (k : ℕ) → checkAt m k ≡ checkOf (wordAt m k) → unsound m k ≡ false
@@ -87,7 +77,7 @@ module _ (m : List ℕ) (bytes : Bytes m) where
       asked-fits j = omega (arith, check-lt (wordAt m j))
 
       held-fits : (j : ℕ) → checkAt m j < 2 ^ 16
-      held-fits j = omega (arith, held-lt j)
+      held-fits j = omega (arith, check-fits j)
 
   -- where no chip below n holds anything else, the check bytes of four of them are those that their words ask for
   pub four-equal : (n k : ℕ) → k + 3 < n → count (unsound m) n ≡ 0 → fourFrom (λ j. checkOf (wordAt m j)) k ≡ fourFrom (checkAt m) k
@@ -140,14 +130,10 @@ module _ (m cws : List ℕ) where
   clean-parity e = eqb-true _ 0 (and-second (eqb (mask (isCandidate m cws) 9) 0) (eqb (xorAll (passOne m cws) 9) 0) e)
 
 module _ (m cws : List ℕ) (bytes : Bytes m) where
-  -- chip k sends its word
-  sent : (k : ℕ) → unsound m k ≡ false → passOne m cws k ≡ wordAt m k
-  sent k e = sent-word m cws k e ∙ held-word m k bytes
-
   -- it is a candidate where that is its catch-word
   candidate : (k : ℕ) → unsound m k ≡ false → isCandidate m cws k ≡ meets m cws k
   unfolding isCandidate
-  candidate k e = ap (λ (w : ℕ). eqb w (catchWord cws k)) (sent k e)
+  candidate k e = ap (λ (w : ℕ). eqb w (catchWord cws k)) (sent-held m cws k bytes e)
 
   -- such a line is clean
   pub clean-made : Clean m cws → isClean m cws ≡ true
@@ -157,12 +143,12 @@ module _ (m cws : List ℕ) (bytes : Bytes m) where
       let sound : (k : ℕ) → k < 9 → unsound m k ≡ false = count-none (unsound m) 9 nine in
       ap₂ _&&_
       (eq-eqb _ 0 (mask-zero (isCandidate m cws) 9 (λ k l. candidate k (sound k l) ∙ count-none (meets m cws) 9 (c .apart) k l)))
-      (eq-eqb _ 0 (xorAll-ext (passOne m cws) (wordAt m) 9 (λ k l. sent k (sound k l)) ∙ c .words))
+      (eq-eqb _ 0 (xorAll-ext (passOne m cws) (wordAt m) 9 (λ k l. sent-held m cws k bytes (sound k l)) ∙ c .words))
 
   -- and a clean line is such
   pub clean-read : isClean m cws ≡ true → Clean m cws
   clean-read e =
-      let words : xorAll (wordAt m) 9 ≡ 0 = sym (xorAll-ext (passOne m cws) (wordAt m) 9 (λ k l. sent k (sound k l))) ∙ clean-parity m cws e in
+      let words : xorAll (wordAt m) 9 ≡ 0 = sym (xorAll-ext (passOne m cws) (wordAt m) 9 (λ k l. sent-held m cws k bytes (sound k l))) ∙ clean-parity m cws e in
       record {
         words = words;
         checks = xor-checks m bytes 9 (count-zero (unsound m) 9 sound) ∙ ap checkOf words ∙ check-zero;

@@ -1,5 +1,5 @@
 -- The closed form of a visit. The flagged chips are those that hold no codeword, and the line's bytes alone decide the outcome, the words
--- and the bytes after it; the catch-words decide the collisions, and with them whether pass two is made. m and cws are any lists.
+-- and the bytes after it; the catch-words decide the collisions, and with them whether pass two is made. m and cws are any lists, but in the last laws m is 81 bytes.
 -- Assumes nothing.
 use mathlib.Core.Path.{_≡_, refl, sym, ap, _∙_}
 use mathlib.Core.Bool.{Bool, true, false, not, _&&_, _||_, cond}
@@ -19,10 +19,11 @@ use Rattle.line.specs.ByteLaws.{Bytes, number-bytesOf}
 use Rattle.line.specs.CellLaws.{length-joined, chip-joined, length-chip, cell-fits, word-chip, held-word, length-codeword, eight-codeword}
 use Rattle.line.specs.ChipLaws.{joined-ext, xorAll-ext, xorAll-lt, count-ext, mask-ext, count-none, count-one}
 use Rattle.line.specs.Visit.{sends, sentAt, catchWord, passOne, isCandidate, complement, passTwo, follows, isFlagged, isCollision, flaggedChips, mustCancel, xorOthers, passThree, outcomeBy, wordBy, outcomeOf, wordOf, writtenBack, bytesBy, bytesAfter, passesOf}
+use Rattle.line.specs.Scan.{unsound}
 use Rattle.line.specs.declared.Outcome.{Outcome}
 use Rattle.line.specs.declared.Outcome.the-variants.{Answered, Refused}
 
--- ---- the closed form. A name in With goes by how many chips hold no codeword, or by the outcome; the same name in For takes that from the line
+-- ---- the closed form. A name that ends in With goes by how many chips hold no codeword, or by the outcome; in For, by the line alone
 
 -- chip k's word as it stands
 abbrev pub heldWord : List ℕ → ℕ → ℕ
@@ -31,10 +32,6 @@ heldWord m k = cellAt m k / 256
 -- M of chip k's nine bytes
 abbrev pub mendedAt : List ℕ → ℕ → ℕ
 mendedAt m k = mendedWord (cellAt m k)
-
--- chip k holds no codeword
-unfoldable pub unsound : List ℕ → ℕ → Bool
-unsound m k = not (isCodeword (cellAt m k))
 
 -- chip k holds a codeword whose word is its catch-word
 unfoldable pub matches : List ℕ → List ℕ → ℕ → Bool
@@ -76,6 +73,10 @@ pub sent-word : (m cws : List ℕ) (k : ℕ) → unsound m k ≡ false → passO
 unfolding unsound passOne sentAt sends
 sent-word m cws k h = rw (not-false (isCodeword (cellAt m k)) h)
 
+-- the same, of bytes
+pub sent-held : (m cws : List ℕ) (k : ℕ) → Bytes m → unsound m k ≡ false → passOne m cws k ≡ wordAt m k
+sent-held m cws k bytes e = sent-word m cws k e ∙ held-word m k bytes
+
 -- any chip sends M of its nine bytes in pass three
 pub third-word : (m cws : List ℕ) (k : ℕ) → passThree m cws k ≡ mendedAt m k
 unfolding passThree sentAt sends
@@ -85,10 +86,6 @@ third-word m cws k = refl
 sound-mended : (m : List ℕ) (k : ℕ) → unsound m k ≡ false → mendedAt m k ≡ heldWord m k
 unfolding unsound
 sound-mended m k h = mendedWord-codeword (cellAt m k) (codeword-syndrome (cellAt m k) (not-false (isCodeword (cellAt m k)) h))
-
--- a chip that holds a codeword sends its word in pass three too
-pub sent-mended : (m cws : List ℕ) (k : ℕ) → unsound m k ≡ false → passThree m cws k ≡ cellAt m k / 256
-sent-mended m cws k h = third-word m cws k ∙ sound-mended m k h
 
 -- ---- which chips are flagged
 

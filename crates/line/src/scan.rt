@@ -1,4 +1,4 @@
-// Whether a line is clean, by one look at each byte and four check bytes at a time.
+// Whether a line is clean, the check bytes of four chips at a time.
 ghost use mathlib.Core.Path.{_≡_};
 ghost use Prim.Native.Nat.{_+_, _<_};
 ghost use lib.Dec.{eqb};
@@ -6,8 +6,7 @@ ghost use lib.ListN.{length};
 ghost use Rattle.code.specs.Code.{checkOf};
 ghost use Rattle.line.specs.Chips.{xorAll, count};
 ghost use Rattle.line.specs.Cells.{wordAt, checkAt};
-ghost use Rattle.line.specs.VisitLaws.{unsound};
-ghost use Rattle.line.specs.Scan.{isClean, meets, fourFrom};
+ghost use Rattle.line.specs.Scan.{isClean, meets, fourFrom, unsound};
 use super::cells;
 
 // Whether no chip is a candidate and the nine words sent in pass one xor to zero. Where the words and the check bytes of nine chips xor to
@@ -16,10 +15,10 @@ pub fn is_clean(line: &[u8], catch_words: &[u64; 9]) -> bool
     requires { ⌜ (length (now line) ≡ 81) × (length (now «catch_words») ≡ 9) ⌝ }
     ensures { λ r. ⌜ r ≡ isClean (now (line .entry)) (now («catch_words» .entry)) ⌝ }
 {
-    if words(line) != 0 {
+    if parity(line) != 0 {
         return false;
     }
-    if checks(line) != 0 {
+    if check_parity(line) != 0 {
         return false;
     }
     if !eight_sound(line) {
@@ -29,27 +28,27 @@ pub fn is_clean(line: &[u8], catch_words: &[u64; 9]) -> bool
 }
 
 // The xor of the nine words.
-fn words(line: &[u8]) -> u64
+fn parity(line: &[u8]) -> u64
     requires { ⌜ length (now line) ≡ 81 ⌝ }
     ensures { λ r. ⌜ r ≡ xorAll (wordAt (now (line .entry))) 9 ⌝ }
 {
-    let mut sum = 0u64;
+    let mut parity = 0u64;
     for k in 0..9 {
-        sum = sum ^ cells::word_at(line, k);
+        parity = parity ^ cells::word_at(line, k);
     }
-    sum
+    parity
 }
 
 // The xor of the nine check bytes.
-fn checks(line: &[u8]) -> u8
+fn check_parity(line: &[u8]) -> u8
     requires { ⌜ length (now line) ≡ 81 ⌝ }
     ensures { λ r. ⌜ r ≡ xorAll (checkAt (now (line .entry))) 9 ⌝ }
 {
-    let mut sum = 0u8;
+    let mut parity = 0u8;
     for k in 0..9 {
-        sum = sum ^ cells::check_at(line, k);
+        parity = parity ^ cells::check_at(line, k);
     }
-    sum
+    parity
 }
 
 // Whether chips 0 to 7 hold codewords.
@@ -58,7 +57,7 @@ fn eight_sound(line: &[u8]) -> bool
     ensures { λ r. ⌜ r ≡ eqb (count (unsound (now (line .entry))) 8) 0 ⌝ }
 {
     for i in 0..2 {
-        if asked(line, 4 * i) != held(line, 4 * i) {
+        if computed(line, 4 * i) != held(line, 4 * i) {
             return false;
         }
     }
@@ -78,8 +77,8 @@ fn apart(line: &[u8], catch_words: &[u64; 9]) -> bool
     true
 }
 
-// The check bytes that the words of four chips from chip K on ask for, each in its lane.
-fn asked(line: &[u8], k: usize) -> u64
+// The check bytes of the words of four chips from chip K on, each in its lane.
+fn computed(line: &[u8], k: usize) -> u64
     requires { ⌜ (length (now line) ≡ 81) × (k + 3 < 9) ⌝ }
     ensures { λ r. ⌜ r ≡ fourFrom (λ j. checkOf (wordAt (now (line .entry)) j)) k ⌝ }
 {

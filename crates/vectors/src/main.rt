@@ -15,7 +15,9 @@ enum Trial {
     OneBitWord,
     // A word and a check byte of a fixed sequence: the same.
     Word,
-    // A codeword with one of its 72 bits inverted: the same, its position, and its word after mending.
+    // Four words of that sequence: their check bytes at once.
+    FourWords,
+    // A codeword with one of its 72 bits inverted: its check byte, syndrome and codeword test, its position, and its word after mending.
     Damage,
     // A line laid and read back.
     Laid,
@@ -41,6 +43,11 @@ fn main() {
         b"words of a fixed sequence, against the bitwise CRC-8",
         Trial::Word,
         100000,
+    );
+    report(
+        b"four words of that sequence at once, against the bitwise CRC-8",
+        Trial::FourWords,
+        25000,
     );
     report(
         b"one-bit damages of 16 codewords, against the bitwise CRC-8",
@@ -90,6 +97,7 @@ fn succeeds(trial: Trial, i: u64) -> bool {
         Trial::Published => digits_crc() == 0xf4,
         Trial::OneBitWord => agrees(word_bit(8 + i % 64), 0xff),
         Trial::Word => agrees(word_of(i), (word_of(i) / 256 % 256) as u8),
+        Trial::FourWords => four_agree(i),
         Trial::Damage => mends(word_of(i / 72), i % 72),
         Trial::Laid => visits::lays(),
         Trial::Rebuilt => visits::rebuilds(i),
@@ -122,6 +130,22 @@ fn agrees(word: u64, check: u8) -> bool {
     code::check_byte(word) == crc::remainder(word, 0)
         && code::syndrome(word, check) == crc::remainder(word, check)
         && code::is_codeword(word, check) == (crc::remainder(word, check) == 0)
+}
+
+// Whether the check bytes of four words, each in its 16 bits, are those of the bitwise CRC-8.
+fn four_agree(i: u64) -> bool {
+    let first = i % 25000 * 4;
+    let a = word_of(first);
+    let b = word_of(first + 1);
+    let c = word_of(first + 2);
+    let d = word_of(first + 3);
+    let expected = lane(a) | (lane(b) << 16) | (lane(c) << 32) | (lane(d) << 48);
+    code::lanes::check_bytes(a, b, c, d) == expected
+}
+
+// A word's check byte as wide as its lane is shifted.
+fn lane(word: u64) -> u64 {
+    crc::remainder(word, 0) as u64
 }
 
 // Whether the codeword of a word with one bit inverted agrees with the bitwise CRC-8, and the bit is found and mended.

@@ -37,12 +37,17 @@ pub fn lays() -> bool {
     check::same(&bytes, &expected) && check::same(&back, text)
 }
 
-// Whether a line with bit i of its 648 inverted is rebuilt from the other eight chips.
+// Whether a line with bit i of its 648 inverted is rebuilt from the other eight chips, and is clean at the next visit.
 pub fn rebuilds(i: u64) -> bool {
     let expected = laid(words_of(i));
     let mut bytes = inverted(expected, i);
     let report = line::visit(&mut bytes, &CATCH_WORDS);
-    is(report, 0, 2, chip_bit(i / 72), 0) && check::same(&bytes, &expected)
+    let rebuilt = check::same(&bytes, &expected);
+    let next = line::visit(&mut bytes, &CATCH_WORDS);
+    rebuilt
+        && is(report, 0, 2, chip_bit(i / 72), 0)
+        && is(next, 0, 1, 0, 0)
+        && check::same(&bytes, &expected)
 }
 
 // Whether a line with bit i inverted, and the same bit of the chip three further on, is mended.

@@ -4,7 +4,7 @@ use Prim.Native.Nat.{_+_, _-_, _*_, _≤_, zero-le}
 use native.Mathlib.Omega.{arith}
 use borrow.Author.Tests.{eq-eqb, eqb-true}
 use Rattle.line.specs.Chips.{count}
-use Rattle.line.specs.VisitLaws.{unsound}
+use Rattle.line.specs.Scan.{unsound}
 use Rattle.line.specs.ScanLaws.{fails, four-more, four-equal}
 use borrow.Author.Needs.{needs}
 use Rattle.line.proofs.scan.eight_sound.Statement.{statement}
@@ -26,7 +26,7 @@ returns c =
     let i = c .before .before .before .before .loop .i in
     fails _ (λ t.
     c .if1 .taken
-    (c .before .before .asked .ensures
+    (c .before .before .computed .ensures
     ∙ four-equal m (λ j. c .before .before .before .before .before .shared-slice-known .given j .fits) 8 (4 * i) (search needs) (eqb-true _ 0 t)
     ∙ sym (c .before .held .ensures)))
 
@@ -38,7 +38,7 @@ loop-again c =
       search needs,
       ap (count (unsound m)) more
           ∙ four-more m (λ j. c .before .before .before .before .before .shared-slice-known .given j .fits) (4 * l .i) (l .inv .1)
-          (sym (c .before .before .asked .ensures) ∙ c .if1 .left ∙ c .before .held .ensures),
+          (sym (c .before .before .computed .ensures) ∙ c .if1 .left ∙ c .before .held .ensures),
     )
 
 returns-2 : tie.Need-returns-2 Inv-loop μ-loop

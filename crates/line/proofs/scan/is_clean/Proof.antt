@@ -12,7 +12,7 @@ returns c =
     let x = c .before .before .before .args in
     fails _ (λ t.
     c .if1 .taken
-    (c .before .words .ensures
+    (c .before .parity .ensures
     ∙ clean-read (x .line .now) (x .catch-words .now) (λ i. c .before .before .shared-slice-known .given i .fits) t .words))
 
 returns-2 : tie.Need-returns-2
@@ -20,7 +20,7 @@ returns-2 c =
     let x = c .before .before .before .before .before .args in
     fails _ (λ t.
     c .if2 .taken
-    (c .before .checks .ensures
+    (c .before .check-parity .ensures
     ∙ clean-read (x .line .now) (x .catch-words .now) (λ i. c .before .before .before .before .shared-slice-known .given i .fits) t .checks))
 
 returns-3 : tie.Need-returns-3
@@ -40,8 +40,8 @@ returns-4 c =
     (λ t.
     clean-made (x .line .now) (x .catch-words .now) bytes
     (record {
-      words = sym (s .before .before .words .ensures) ∙ s .before .if1 .left;
-      checks = sym (s .checks .ensures) ∙ c .before .before .before .if2 .left;
+      words = sym (s .before .before .parity .ensures) ∙ s .before .if1 .left;
+      checks = sym (s .check-parity .ensures) ∙ c .before .before .before .if2 .left;
       eight = eqb-true _ 0 (sym (c .before .before .eight-sound .ensures) ∙ not-false _ (c .before .if3 .left));
       apart = eqb-true _ 0 t;
     }))

@@ -1,11 +1,11 @@
--- `line::scan::asked` meets its contract. Assumes nothing.
+-- `line::scan::computed` meets its contract. Assumes nothing.
 use mathlib.Core.Path.{_∙_}
 use Rattle.code.specs.Code.{checkOf}
 use Rattle.code.specs.Lanes.{lanes}
 use Rattle.line.specs.Scan.{fourFrom}
 use borrow.Author.Needs.{needs}
-use Rattle.line.proofs.scan.asked.Statement.{statement}
-use Rattle.line.proofs.scan.asked.Tie as tie
+use Rattle.line.proofs.scan.computed.Statement.{statement}
+use Rattle.line.proofs.scan.computed.Tie as tie
 
 returns : tie.Need-returns
 unfolding fourFrom
@@ -18,8 +18,8 @@ returns c =
     (checkOf (c .before .before .word-at3 .ensures i))
     (checkOf (c .before .word-at4 .ensures i))
 
-pub asked-spec : {M : Type 1} → statement M
-asked-spec =
+pub computed-spec : {M : Type 1} → statement M
+computed-spec =
     tie.close
     (tie.spec
     (λ c κs. search needs)
