@@ -16,11 +16,11 @@ use Rattle.code.specs.Lanes.{lanes, inLanes, foldOf}
 abbrev Fits : (ℕ → ℕ) → Type 0
 Fits f = (x : ℕ) → x < 2 ^ 16 → f x < 2 ^ 16
 
--- a lane
+-- a lane has 16 bits
 lane-lt : (v : ℕ) → v % 2 ^ 16 < 2 ^ 16
 lane-lt v = mod-lt v (pow-pos 16)
 
--- n lanes
+-- n lanes have 16 × n bits
 lanes-lt : (f : ℕ → ℕ) → Fits f → (n v : ℕ) → inLanes f n v < 2 ^ (16 * n)
 unfolding inLanes
 lanes-lt f h zero v = zero-lt-suc 0
