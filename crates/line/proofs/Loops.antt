@@ -7,43 +7,13 @@ use native.Mathlib.Nat.{le-antisymm, le-trans, mul-zero, mul-le-mul-left}
 use native.Mathlib.Numerals.{add-one}
 use native.Mathlib.Omega.{arith}
 use lib.Bits.{bitOr, bitXor, or-shifted-r}
-use lib.ListN.{length, getD, set, take, drop, length-set}
-use lib.Seq.{sets, length-sets, take-suc, take-suc-set, take-all, getD-set-other, length-take-le}
-use Rattle.line.specs.Chips.{ofChips, joined, xorAll, bit, mask}
+use lib.ListN.{length, getD, set, take, drop}
+use lib.Seq.{sets, length-sets, take-suc, getD-set-other, length-take-le}
+use Rattle.line.specs.Chips.{joined, xorAll, bit, mask}
 use Rattle.line.specs.ChipLaws.{mask-lt}
 use Rattle.line.specs.Cells.{bytesFrom, xorBytes}
 use Rattle.line.specs.ByteLaws.{length-bytesFrom, bytesFrom-suc, length-xor, xor-snoc, sets-append}
 use Rattle.line.specs.CellLaws.{joined-store, joined-skip, joined-over}
-
--- ---- values in an array of nine
-
--- f of the first k chips stands in s
-pub record Filled (f : ℕ → ℕ) (s : List ℕ) (k : ℕ) : Type 0 where
-  pub within : k ≤ 9
-  pub size : length s ≡ 9
-  pub done : take k s ≡ ofChips f k
-
-pub filled-none : (f : ℕ → ℕ) (s : List ℕ) → length s ≡ 9 → Filled f s 0
-unfolding ofChips
-filled-none f s e = record { within = zero-le; size = e; done = refl }
-
-pub filled-more : {f : ℕ → ℕ} {s : List ℕ} {k v : ℕ} → Filled f s k → k < 9 → v ≡ f k → Filled f (set s k v) (k + 1)
-unfolding ofChips
-filled-more {f} {s} {k} {v} h l e =
-    record {
-      within = omega arith;
-      size = length-set s k v ∙ h .size;
-      done =
-          ap (λ (n : ℕ). take n (set s k v)) (add-one k)
-          ∙ take-suc-set s k v (omega (arith, h .size))
-          ∙ ap₂ (λ (t : List ℕ) (x : ℕ). t ++ (x ∷ [])) (h .done) e
-          ∙ ap (ofChips f) (sym (add-one k));
-    }
-
-pub filled-all : {f : ℕ → ℕ} {s : List ℕ} {k : ℕ} → Filled f s k → 9 ≤ k → s ≡ ofChips f 9
-filled-all {f} {s} {k} h l =
-    let e : k ≡ 9 = le-antisymm (h .within) l in
-    sym (take-all 9 s (omega (arith, h .size))) ∙ ap (λ (n : ℕ). take n s) (sym e) ∙ h .done ∙ ap (ofChips f) e
 
 -- ---- blocks of w bytes stored over a list of n of them
 

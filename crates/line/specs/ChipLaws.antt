@@ -11,8 +11,8 @@ use native.Mathlib.Omega.{arith}
 use lib.Arith.{digits-lt}
 use lib.Pow.{pow-pos, pow-add, high}
 use lib.Bits.{bitAnd, bitXor, and-block, xor-block, xor-lt, xor-zero-r}
-use lib.ListN.{length, getD, length-append, List·getD-append}
-use lib.Seq.{getD-at}
+use lib.ListN.{length, getD, take, length-append, List·getD-append}
+use lib.Seq.{getD-at, take-suc, take-all}
 use lib.Dec.{eqb}
 use borrow.Author.Tests.{eq-eqb, ne-eqb, eqb-true, not-false}
 use lib.Count.{ones, onesIn, ones-cat}
@@ -288,3 +288,13 @@ count-mask p n e = mask-zero p n (count-none p n e)
 -- no chip is counted where none passes the test
 pub count-zero : (p : ℕ → Bool) (n : ℕ) → ((k : ℕ) → k < n → p k ≡ false) → count p n ≡ 0
 count-zero p n h = mask-count p n (mask-zero p n h)
+
+-- a list is its elements in order
+pub ofChips-take : (l : List ℕ) (n : ℕ) → n ≤ length l → ofChips (λ k. getD l k 0) n ≡ take n l
+unfolding ofChips
+ofChips-take l zero h = refl
+ofChips-take l (suc n) h =
+    ap (λ (t : List ℕ). t ++ (getD l n 0 ∷ [])) (ofChips-take l n (omega arith)) ∙ sym (take-suc l n 0 (omega arith))
+
+pub ofChips-list : (l : List ℕ) (n : ℕ) → length l ≡ n → ofChips (λ k. getD l k 0) n ≡ l
+ofChips-list l n e = ofChips-take l n (omega arith) ∙ take-all n l (omega arith)

@@ -6,6 +6,7 @@ pub mod Damage
 pub mod ChipLaws
 pub mod ByteLaws
 pub mod CellLaws
+pub mod ArrayLaws
 pub mod VisitLaws
 pub mod ScanLaws
 pub mod DamageLaws

@@ -12,7 +12,7 @@ ghost use Rattle.line.specs.declared.Outcome.the-variants.{Answered, Ref
 pub mod cells;
 mod chips;
 mod first;
-mod masks;
+pub mod masks;
 mod scan;
 mod second;
 mod third;

@@ -1,8 +1,14 @@
-// Trials at run time: the code inside a chip against document 01's marked examples and against a CRC-8 made another way, and visits to a
-// line that was made with that CRC-8. Each line of output says what was tried, how many trials succeeded, and of how many.
+// Trials at run time: the code inside a chip against document 01's marked examples and against a CRC-8 made another way, and visits and
+// calls on lines that were made with that CRC-8. Each line of output says what was tried, how many trials succeeded, and of how many.
 use libc::STDOUT_FILENO;
+use refusals::Call;
 
+mod calls;
 mod crc;
+mod large;
+mod layout;
+mod refusals;
+mod results;
 mod visits;
 
 // What is tried. Trials of a kind are numbered from 0.
@@ -29,9 +35,36 @@ enum Trial {
     RefusedParity,
     Collision,
     AllCollide,
+    // A call with every set of the conditions that it is refused for.
+    Refused(Call),
+    // A rank of 4,097 lines, from one of its trials onwards: boot, its last line, line numbers beyond, patrols with the least and the
+    // largest budget.
+    Large(u64),
+    // A rank of four lines: a line written, one-bit faults read, a codeword's pattern refused 20, and document 01's example of `bench`.
+    Written,
+    FaultRead,
+    CodewordFault,
+    Example,
+    // Its catch-words: renewed and moved by a read, all nine moved, not moved by a refused read, and moved by a patrol.
+    Moved,
+    AllMoved,
+    NoneMoved,
+    PatrolMoved,
+    // The repair total, and patrols over damaged lines.
+    Repairs,
+    PatrolDamaged,
 }
 
 fn main() {
+    report_code();
+    report_visits();
+    report_refusals();
+    report_large();
+    report_calls();
+    report_records();
+}
+
+fn report_code() {
     report(b"marked examples", Trial::Marked, 12);
     report(b"published CRC-8", Trial::Published, 1);
     report(
@@ -54,6 +87,9 @@ fn main() {
         Trial::Damage,
         16 * 72,
     );
+}
+
+fn report_visits() {
     report(b"line laid and read back", Trial::Laid, 1);
     report(b"one-bit damages of a line, rebuilt", Trial::Rebuilt, 648);
     report(b"one-bit damages of two chips, mended", Trial::Mended, 648);
@@ -69,6 +105,82 @@ fn main() {
     );
     report(b"collisions on each chip", Trial::Collision, 9);
     report(b"collisions on all nine", Trial::AllCollide, 16);
+}
+
+fn report_refusals() {
+    report(b"boots refused 11 or 5", Trial::Refused(Call::Boot), 14);
+    report(
+        b"writes refused 12, 13, 14, 1 or 2",
+        Trial::Refused(Call::Write),
+        1799,
+    );
+    report(
+        b"reads refused 12, 13, 14, 1 or 2",
+        Trial::Refused(Call::Read),
+        1799,
+    );
+    report(
+        b"patrols refused 12, 13, 14 or 1",
+        Trial::Refused(Call::Patrol),
+        1199,
+    );
+    report(
+        b"renews refused 12, 14 or 3",
+        Trial::Refused(Call::Renew),
+        199,
+    );
+    report(
+        b"faults refused 12, 13, 14, 1, 3 or 4",
+        Trial::Refused(Call::Fault),
+        8999,
+    );
+}
+
+fn report_large() {
+    report(b"boot of 4,097 lines", Trial::Large(0), 1);
+    report(b"line 4,096 written and read back", Trial::Large(1), 1);
+    report(b"lines not below 4,097, refused 1", Trial::Large(2), 12);
+    report(
+        b"patrols with budget 0 and 4,294,967,295",
+        Trial::Large(14),
+        3,
+    );
+}
+
+fn report_calls() {
+    report(b"lines written among others", Trial::Written, 16);
+    report(b"one-bit faults, read and repaired", Trial::FaultRead, 648);
+    report(
+        b"faults by a codeword, read and refused 20",
+        Trial::CodewordFault,
+        9,
+    );
+    report(b"document 01's example of program bench", Trial::Example, 1);
+}
+
+fn report_records() {
+    report(b"catch-words renewed, and moved by a read", Trial::Moved, 9);
+    report(
+        b"nine catch-words moved, eight with a carry out",
+        Trial::AllMoved,
+        1,
+    );
+    report(
+        b"collisions in reads refused 20 and 21, none moved",
+        Trial::NoneMoved,
+        9,
+    );
+    report(
+        b"catch-words moved twice by a patrol",
+        Trial::PatrolMoved,
+        9,
+    );
+    report(b"repair totals", Trial::Repairs, 4);
+    report(
+        b"patrols over damaged lines, one beyond repair",
+        Trial::PatrolDamaged,
+        9,
+    );
 }
 
 fn report(what: &[u8], trial: Trial, n: u64) {
@@ -106,6 +218,18 @@ fn succeeds(trial: Trial, i: u64) -> bool {
         Trial::RefusedParity => visits::refuses_parity(i),
         Trial::Collision => visits::collides(i),
         Trial::AllCollide => visits::all_collide(i),
+        Trial::Refused(call) => refusals::succeeds(call, i),
+        Trial::Large(first) => large::succeeds(first % 17 + i % 17),
+        Trial::Written => calls::writes(i),
+        Trial::FaultRead => calls::reads_damaged(i),
+        Trial::CodewordFault => calls::refuses_parity(i),
+        Trial::Example => calls::example(),
+        Trial::Moved => calls::moves(i),
+        Trial::AllMoved => calls::all_move(),
+        Trial::NoneMoved => calls::refused_moves_none(i),
+        Trial::PatrolMoved => calls::patrol_moves(i),
+        Trial::Repairs => calls::counts_repairs(i),
+        Trial::PatrolDamaged => calls::patrols(i),
     }
 }
 

@@ -1,20 +1,14 @@
-// Visits to one line. Its 81 bytes are made here, with the bitwise CRC-8, and not by crate `line`. Trial i has a line of its own.
-use super::crc;
+// Visits to one line. Its 81 bytes are made by `layout`. Trial i has a line of its own.
+use super::layout::CATCH_WORDS;
+use super::layout::chip_bit;
+use super::layout::inverted;
+use super::layout::laid;
+use super::layout::with_parity;
+use super::layout::with_wide;
+use super::layout::words_of;
+use super::results::same_numbers;
 use line::Outcome;
 use line::Report;
-
-// No word of a tried line is its chip's catch-word, except where a collision is tried.
-const CATCH_WORDS: [u64; 9] = [
-    0x1111_1111_1111_1111,
-    0x2222_2222_2222_2222,
-    0x3333_3333_3333_3333,
-    0x4444_4444_4444_4444,
-    0x5555_5555_5555_5555,
-    0x6666_6666_6666_6666,
-    0x7777_7777_7777_7777,
-    0x8888_8888_8888_8888,
-    0x9999_9999_9999_9999,
-];
 
 // Whether 64 bytes are laid as they are laid here, and read back.
 pub fn lays() -> bool {
@@ -39,95 +33,116 @@ pub fn lays() -> bool {
 
 // Whether a line with bit i of its 648 inverted is rebuilt from the other eight chips, and is clean at the next visit.
 pub fn rebuilds(i: u64) -> bool {
-    let expected = laid(words_of(i));
-    let mut bytes = inverted(expected, i);
-    let report = line::visit(&mut bytes, &CATCH_WORDS);
-    let rebuilt = check::same(&bytes, &expected);
-    let next = line::visit(&mut bytes, &CATCH_WORDS);
-    rebuilt
-        && is(report, 0, 2, chip_bit(i / 72), 0)
-        && is(next, 0, 1, 0, 0)
-        && check::same(&bytes, &expected)
+    let line = laid(words_of(i));
+    visit_leaves(
+        inverted(line, i),
+        CATCH_WORDS,
+        [0, 2, chip_bit(i / 72), 0],
+        line,
+    )
+        && visit_leaves(line, CATCH_WORDS, [0, 1, 0, 0], line)
 }
 
 // Whether a line with bit i inverted, and the same bit of the chip three further on, is mended.
 pub fn mends(i: u64) -> bool {
-    let expected = laid(words_of(i));
+    let line = laid(words_of(i));
     let other = i % 648 + 216;
-    let mut bytes = inverted(inverted(expected, i), other);
-    let report = line::visit(&mut bytes, &CATCH_WORDS);
-    is(report, 0, 3, chip_bit(i / 72) | chip_bit(other / 72), 0) && check::same(&bytes, &expected)
+    let flagged = chip_bit(i / 72) | chip_bit(other / 72);
+    visit_leaves(
+        inverted(inverted(line, i), other),
+        CATCH_WORDS,
+        [0, 3, flagged, 0],
+        line,
+    )
 }
 
-// Whether a line is refused 21, and stays, where fault patterns leave one chip with 07h on its check byte, of which M is 1, and another with one
-// bit inverted. Trial i stands for one of the 72 ways to choose the two.
+// Whether a line is refused 21, and stays, where fault patterns leave one chip with 07h on its check byte, of which M is 1, and another
+// with one bit inverted. Trial i stands for one of the 72 ways to choose the two.
 pub fn refuses_mended(i: u64) -> bool {
     let wide = i / 8 % 9;
     let narrow = (wide + 1 + i % 8) % 9;
-    let check = 72 * wide + 64;
-    let sound = laid(words_of(i));
-    let damaged = inverted(
-        inverted(inverted(inverted(sound, check), check + 1), check + 2),
-        72 * narrow,
-    );
-    let mut bytes = sound;
-    line::cells::xor_into(&mut bytes, wide as usize, &[0, 0, 0, 0, 0, 0, 0, 0, 7]);
-    line::cells::xor_into(&mut bytes, narrow as usize, &[1, 0, 0, 0, 0, 0, 0, 0, 0]);
-    let faulty = check::same(&bytes, &damaged);
-    let report = line::visit(&mut bytes, &CATCH_WORDS);
-    faulty
-        && is(report, 21, 3, chip_bit(wide) | chip_bit(narrow), 0)
-        && check::same(&bytes, &damaged)
+    let line = laid(words_of(i));
+    let damaged = inverted(with_wide(line, wide), 72 * narrow);
+    faults_leave(line, wide, narrow, damaged)
+        && visit_leaves(
+            damaged,
+            CATCH_WORDS,
+            [21, 3, chip_bit(wide) | chip_bit(narrow), 0],
+            damaged,
+        )
 }
 
-// Whether a line of codewords that do not xor to zero is refused 20, and stays, where chip i has another word; and with a collision beside it.
+fn faults_leave(before: [u8; 81], wide: u64, narrow: u64, after: [u8; 81]) -> bool {
+    let mut line = before;
+    line::cells::xor_into(&mut line, (wide % 9) as usize, &[0, 0, 0, 0, 0, 0, 0, 0, 7]);
+    line::cells::xor_into(
+        &mut line,
+        (narrow % 9) as usize,
+        &[1, 0, 0, 0, 0, 0, 0, 0, 0],
+    );
+    same(&line, &after)
+}
+
+// Whether a line of codewords that do not xor to zero is refused 20, and stays, where chip i has another word; and with a collision
+// beside it.
 pub fn refuses_parity(i: u64) -> bool {
     let mut words = words_of(i);
     let k = (i % 9) as usize;
     words[k] = words[k] ^ 256;
-    let damaged = laid(words);
-    let mut bytes = damaged;
-    let report = line::visit(&mut bytes, &CATCH_WORDS);
-    let colliding = line::visit(&mut bytes, &meeting(words, i % 9 + 1));
-    is(report, 20, 1, 0, 0)
-        && is(colliding, 20, 2, 0, chip_bit(i % 9 + 1))
-        && check::same(&bytes, &damaged)
+    let line = laid(words);
+    visit_leaves(line, CATCH_WORDS, [20, 1, 0, 0], line)
+        && visit_leaves(
+            line,
+            meeting(words, i % 9 + 1),
+            [20, 2, 0, chip_bit(i % 9 + 1)],
+            line,
+        )
 }
 
 // Whether a line is answered, and stays, where chip i holds its catch-word; and is rebuilt where the chip before it has a bit inverted.
 pub fn collides(i: u64) -> bool {
     let words = words_of(i);
-    let expected = laid(words);
-    let mut bytes = expected;
-    let report = line::visit(&mut bytes, &meeting(words, i));
-    let stays = check::same(&bytes, &expected);
-    let mut damaged = inverted(expected, i % 9 * 72 + 576);
-    let rebuilt = line::visit(&mut damaged, &meeting(words, i));
-    stays
-        && is(report, 0, 2, 0, chip_bit(i))
-        && is(rebuilt, 0, 2, chip_bit(i % 9 + 8), chip_bit(i))
-        && check::same(&damaged, &expected)
+    let line = laid(words);
+    let damaged = inverted(line, i % 9 * 72 + 576);
+    visit_leaves(line, meeting(words, i), [0, 2, 0, chip_bit(i)], line)
+        && visit_leaves(
+            damaged,
+            meeting(words, i),
+            [0, 2, chip_bit(i % 9 + 8), chip_bit(i)],
+            line,
+        )
 }
 
 // Whether a line is answered, and stays, where each chip holds its catch-word.
 pub fn all_collide(i: u64) -> bool {
     let words = words_of(i);
-    let expected = laid(words);
-    let mut bytes = expected;
-    let report = line::visit(&mut bytes, &words);
-    is(report, 0, 2, 0, 0x1ff) && check::same(&bytes, &expected)
+    let line = laid(words);
+    visit_leaves(line, words, [0, 2, 0, 0x1ff], line)
 }
 
-fn is(report: Report, refusal: u32, passes: u32, flagged: u32, collisions: u32) -> bool {
+// What a visit reports and leaves. The numbers are the refusal, the passes, and the flagged and collision masks.
+fn visit_leaves(
+    before: [u8; 81],
+    catch_words: [u64; 9],
+    numbers: [u32; 4],
+    after: [u8; 81],
+) -> bool {
+    let mut line = before;
+    let report = line::visit(&mut line, &catch_words);
+    is(report, numbers) && same(&line, &after)
+}
+
+fn is(report: Report, numbers: [u32; 4]) -> bool {
     let outcome = report.outcome;
-    line::refusal(outcome) == refusal
-        && report.passes == passes
-        && report.flagged == flagged
-        && report.collisions == collisions
+    let refusal = line::refusal(outcome);
+    same_numbers(
+        [refusal, report.passes, report.flagged, report.collisions],
+        numbers,
+    )
 }
 
-fn chip_bit(chip: u64) -> u32 {
-    1 << (chip % 9)
+fn same(a: &[u8; 81], b: &[u8; 81]) -> bool {
+    check::same(a, b)
 }
 
 // Catch-words of which one chip's is its word.
@@ -136,51 +151,4 @@ fn meeting(words: [u64; 9], chip: u64) -> [u64; 9] {
     let k = (chip % 9) as usize;
     catch_words[k] = words[k];
     catch_words
-}
-
-fn words_of(i: u64) -> [u64; 9] {
-    let first = i % 1000 * 8;
-    with_parity([
-        super::word_of(first),
-        super::word_of(first + 1),
-        super::word_of(first + 2),
-        super::word_of(first + 3),
-        super::word_of(first + 4),
-        super::word_of(first + 5),
-        super::word_of(first + 6),
-        super::word_of(first + 7),
-        0,
-    ])
-}
-
-// The ninth word is the xor of the eight.
-fn with_parity(words: [u64; 9]) -> [u64; 9] {
-    let mut out = words;
-    out[8] = words[0] ^ words[1] ^ words[2] ^ words[3] ^ words[4] ^ words[5] ^ words[6] ^ words[7];
-    out
-}
-
-// The 81 bytes of nine codewords.
-fn laid(words: [u64; 9]) -> [u8; 81] {
-    let mut out = [0u8; 81];
-    for i in 0..81 {
-        out[i] = cell_byte(words[i / 9], i % 9);
-    }
-    out
-}
-
-// A word's bytes, highest first, and then its check byte.
-fn cell_byte(word: u64, i: usize) -> u8 {
-    if 7 < i {
-        return crc::remainder(word, 0);
-    }
-    ((word >> (56 - 8 * i)) % 256) as u8
-}
-
-// Bit 0 is the lowest bit of the first byte.
-fn inverted(bytes: [u8; 81], bit: u64) -> [u8; 81] {
-    let mut out = bytes;
-    let i = (bit % 648 / 8) as usize;
-    out[i] = out[i] ^ (1 << (bit % 8));
-    out
 }

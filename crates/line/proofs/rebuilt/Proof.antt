@@ -6,7 +6,7 @@ use lib.Bits.{bitXor}
 use Rattle.line.specs.Chips.{inMask}
 use Rattle.line.specs.Cells.{wordAt}
 use Rattle.line.specs.Visit.{catchWord}
-use Rattle.line.proofs.Loops.{Filled, filled-none, filled-more, filled-all}
+use Rattle.line.specs.ArrayLaws.{Filled, filled-none, filled-more, filled-all}
 use borrow.Author.Needs.{needs}
 use Rattle.line.proofs.rebuilt.Statement.{statement}
 use Rattle.line.proofs.rebuilt.Tie as tie

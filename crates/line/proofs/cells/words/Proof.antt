@@ -2,7 +2,7 @@
 use mathlib.Core.Path.{refl}
 use Prim.Native.Nat.{_-_}
 use Rattle.line.specs.Cells.{wordAt}
-use Rattle.line.proofs.Loops.{Filled, filled-none, filled-more, filled-all}
+use Rattle.line.specs.ArrayLaws.{Filled, filled-none, filled-more, filled-all}
 use borrow.Author.Needs.{needs}
 use Rattle.line.proofs.cells.words.Statement.{statement}
 use Rattle.line.proofs.cells.words.Tie as tie

@@ -4,7 +4,7 @@ use Prim.Native.Nat.{ℕ, _-_}
 use Rattle.code.specs.Code.{mendedWord}
 use Rattle.line.specs.Cells.{cellAt}
 use Rattle.line.specs.Visit.{sends}
-use Rattle.line.proofs.Loops.{Filled, filled-none, filled-more, filled-all}
+use Rattle.line.specs.ArrayLaws.{Filled, filled-none, filled-more, filled-all}
 use borrow.Author.Needs.{needs}
 use Rattle.line.proofs.third.pass.Statement.{statement}
 use Rattle.line.proofs.third.pass.Tie as tie

@@ -1,0 +1,181 @@
+-- Each of the five calls, on the device and on the plain memory: the same answer, and the two stay related.
+-- Assumes nothing.
+use mathlib.Core.Path.{_≡_, refl, sym, ap, ap₂, _∙_, subst}
+use mathlib.Core.Bool.{Bool, true, false, cond}
+use mathlib.Core.List.{List}
+use Prim.Native.Nat.{ℕ, zero, suc, _-_, _<_, _≤_, min}
+use native.Mathlib.Omega.{arith}
+use lib.Dec.{eqb, ltb}
+use lib.ListN.{length, set, length-map}
+use borrow.Author.Tests.{ltb-true, eqb-true}
+use Rattle.line.specs.Cells.{lineWord, stored}
+use Rattle.line.specs.Visit.{refusalOf}
+use Rattle.line.specs.declared.Report.{Report}
+use Rattle.line.specs.declared.Outcome.{Outcome}
+use Rattle.line.specs.declared.Outcome.the-variants.{Answered, Refused}
+use Rattle.rank.specs.Runs.{Did, outs, end, upFrom, sumOf}
+use Rattle.rank.specs.Lines.{lineAt}
+use Rattle.rank.specs.Calls.{Device, visitOf, writeOf, writeBy, readOf, readBy, readResult, bufferBy, foundLine, patrolOf, patrolBy, patrolled, patrolLines, refusedIn, renewOf, renewBy, renewed, faultOf, faultBy, faulted}
+use Rattle.claims.specs.Lists.{Call, write, read, patrol, renew, fault, All, Typed, Seen, refused, done, line, counts, seenBy, deviceCall}
+use Rattle.claims.specs.Plain as P
+use Rattle.claims.specs.Plain.{Line, Plain, whole, hit, answers, visitBy, plainVisit, unless, plainRefusal, visits, plainAccepted, plainBy, plainCall}
+use Rattle.claims.specs.Premises.{Premise, AtVisits, PremiseBy}
+use Rattle.claims.proofs.Lockstep.{Agree}
+use Rattle.claims.proofs.Related.{Formed, Related, formed-whole, formed-hit, laid-whole, laid-hit, holds-laid}
+use Rattle.claims.proofs.Visits.{reportRefused, visited-outcome, visited-found, visited-still, visits-same, sum-map, below-upFrom}
+use Rattle.claims.proofs.Refusals.{passed, deviceRefusal, refusal-same}
+
+-- a call by its refusal
+unfoldable pub deviceBy : ℕ → Device → Call → Did Device Seen
+deviceBy n d (write l b) =
+    let x = writeBy n (d .rank) (d .memory) l b in
+    record { out = seenBy (x .result .refusal) done; now = record { rank = x .result .rank; memory = x .memory } }
+deviceBy n d (read l b) =
+    let x = readBy n (d .rank) (d .memory) l b in
+    record { out = seenBy (x .result .refusal) (line (x .buffer)); now = record { rank = x .result .rank; memory = x .memory } }
+deviceBy n d (patrol first budget) =
+    let x = patrolBy n (d .rank) (d .memory) first budget in
+    record {
+      out = seenBy (x .result .refusal) (counts (x .result .visited) (x .result .refused));
+      now = record { rank = x .result .rank; memory = x .memory };
+    }
+deviceBy n d (renew k w) =
+    let x = renewBy n (d .rank) k w in
+    record { out = seenBy (x .refusal) done; now = record { rank = x .rank; memory = d .memory } }
+deviceBy n d (fault l k q) =
+    let x = faultBy n (d .rank) (d .memory) l k q in
+    record { out = seenBy (x .result .refusal) done; now = record { rank = x .result .rank; memory = x .memory } }
+
+device-by : (d : Device) (c : Call) → deviceCall d c ≡ deviceBy (deviceRefusal d c) d c
+unfolding deviceCall deviceBy writeOf readOf patrolOf renewOf faultOf
+device-by d (write l b) = refl
+device-by d (read l b) = refl
+device-by d (patrol first budget) = refl
+device-by d (renew k w) = refl
+device-by d (fault l k q) = refl
+
+-- a refused call leaves the device as it was
+device-refused : (n : ℕ) (d : Device) (c : Call) → deviceBy (suc n) d c ≡ record { out = refused (suc n); now = d }
+unfolding deviceBy writeBy readBy patrolBy renewBy faultBy
+device-refused n d (write l b) = refl
+device-refused n d (read l b) = refl
+device-refused n d (patrol first budget) = refl
+device-refused n d (renew k w) = refl
+device-refused n d (fault l k q) = refl
+
+module _ (n : ℕ) where
+  abbrev pub Alike : Did Device Seen → Did Plain Seen → Type 0
+  Alike = Agree (Related n) (λ (s : Seen). s) (λ (s : Seen). s)
+
+  -- ---- visits
+
+  -- what is seen of a read, by its visit
+  seen-read : (a : Bool) (p : Plain) (l : ℕ) (found b : List ℕ) → (a ≡ true → found ≡ p .lineAt l .bytes)
+      → seenBy (refusalOf (cond a Answered (Refused 21))) (line (bufferBy (cond a Answered (Refused 21)) found b)) ≡ visitBy a p l .out
+  unfolding refusalOf bufferBy visitBy
+  seen-read true p l found b e = ap line (e refl)
+  seen-read false p l found b e = refl
+
+  read-same : (d : Device) (p : Plain) (l : ℕ) (b : List ℕ) → l < n → Related n d p → Premise (p .lineAt l)
+      → Alike (deviceBy zero d (read l b)) (plainVisit p l)
+  unfolding deviceBy readBy readResult plainVisit
+  read-same d p l b in-n r h =
+      let found : List ℕ = foundLine (lineAt (d .memory) l) (d .rank .«catch_words») in
+      record {
+        same =
+            ap (λ (o : Outcome). seenBy (refusalOf o) (line (bufferBy o found b))) (visited-outcome n d p l in-n r h)
+            ∙ seen-read (answers (p .lineAt l)) p l found b (visited-found n d p l in-n r h);
+        still = visited-still n d p l in-n r h;
+      }
+
+  -- a patrol over the lines ls
+  abbrev deviceLines : Device → List ℕ → Did Device Seen
+  deviceLines d ls = record { out = counts (length (outs visitOf d ls)) (refusedIn (outs visitOf d ls)); now = end visitOf d ls }
+
+  lines-same : (d : Device) (p : Plain) (ls : List ℕ) → All (λ l. l < n) ls → Related n d p → AtVisits p ls
+      → Alike (deviceLines d ls)
+      (record { out = counts (length (outs plainVisit p ls)) (sumOf P.isRefused (outs plainVisit p ls)); now = end plainVisit p ls })
+  unfolding refusedIn
+  lines-same d p ls below r h =
+      let w = visits-same n ls d p below r h in
+      let vs : List Report = outs visitOf d ls in
+      let ss : List Seen = outs plainVisit p ls in
+      record {
+        same =
+            ap₂ counts (sym (length-map vs reportRefused) ∙ ap length (w .answers) ∙ length-map ss P.isRefused)
+            (sum-map reportRefused vs ∙ ap (sumOf (λ (k : ℕ). k)) (w .answers) ∙ sym (sum-map P.isRefused ss));
+        still = w .related;
+      }
+
+  -- ---- accepted calls
+
+  accepted : (d : Device) (p : Plain) (c : Call) → Typed c → Related n d p → plainRefusal (p .lines) c ≡ 0
+      → AtVisits p (visits (p .lines) c) → Alike (deviceBy zero d c) (plainAccepted p c)
+  unfolding deviceBy plainAccepted writeBy patrolBy patrolLines patrolled renewBy renewed faultBy
+  accepted d p (write l b) t r e h =
+      let e₁ = passed (ltb l (p .lines)) 0 (unless (eqb (length b) 64) 2 0) e in
+      let in-n : l < n = subst (λ (k : ℕ). l < k) (r .holds .lines) (ltb-true l (p .lines) (e₁ .0)) in
+      let size : length b ≡ 64 = eqb-true (length b) 64 (passed (eqb (length b) 64) 1 0 (e₁ .1) .0) in
+      record {
+        same = refl;
+        still = record {
+          ready = r .ready;
+          holds = holds-laid n (d .memory) p l in-n (r .holds) (stored (lineWord b)) (whole b) (formed-whole b size t) (sym (laid-whole b));
+        };
+      }
+  accepted d p (read l b) t r e h =
+      let in-p : l < p .lines = ltb-true l (p .lines) (passed (ltb l (p .lines)) 0 (unless (eqb (length b) 64) 2 0) e .0) in
+      read-same d p l b (subst (λ (k : ℕ). l < k) (r .holds .lines) in-p) r (h .0)
+  accepted d p (patrol first budget) t r e h =
+      let in-p : first < p .lines = ltb-true first (p .lines) (passed (ltb first (p .lines)) 0 0 e .0) in
+      let size : p .lines ≡ n = r .holds .lines in
+      let ls : List ℕ = upFrom first (min budget (p .lines - first)) in
+      subst
+      (λ (k : ℕ). Alike (deviceLines d (upFrom first (min budget (k - first)))) (plainAccepted p (patrol first budget)))
+      (sym (r .ready .lines ∙ sym size))
+      (lines-same d p ls (below-upFrom n first (min budget (p .lines - first)) (omega arith)) r h)
+  accepted d p (renew k w) t r e h =
+      record {
+        same = refl;
+        still = record {
+          ready = record {
+            lines = r .ready .lines;
+            enable = r .ready .enable;
+            registers = ap (λ (ws : List ℕ). set ws k w) (r .ready .registers);
+          };
+          holds = r .holds;
+        };
+      }
+  accepted d p (fault l k q) t r e h =
+      let e₁ = passed (ltb l (p .lines)) 0 (unless (ltb k 9) 3 (unless (eqb (length q) 9) 4 0)) e in
+      let e₂ = passed (ltb k 9) 2 (unless (eqb (length q) 9) 4 0) (e₁ .1) in
+      let in-n : l < n = subst (λ (j : ℕ). l < j) (r .holds .lines) (ltb-true l (p .lines) (e₁ .0)) in
+      let chip : k < 9 = ltb-true k 9 (e₂ .0) in
+      let nine : length q ≡ 9 = eqb-true (length q) 9 (passed (eqb (length q) 9) 3 0 (e₂ .1) .0) in
+      let x : Line = p .lineAt l in
+      let f : Formed x = r .holds .formed l in-n in
+      record {
+        same = refl;
+        still = record {
+          ready = r .ready;
+          holds =
+              holds-laid n (d .memory) p l in-n (r .holds) (faulted (lineAt (d .memory) l) k q) (hit x k q) (formed-hit x k q f nine t)
+              (ap (λ (m : List ℕ). faulted m k q) (r .holds .each l in-n) ∙ laid-hit x k q f chip nine);
+        };
+      }
+
+  -- ---- every call
+
+  -- a call that is accepted or refused alike
+  pub call-same : 1 ≤ n → n ≤ 65536 → (d : Device) (p : Plain) (c : Call) → Typed c → Related n d p
+      → PremiseBy (plainRefusal (p .lines) c) p c → Alike (deviceCall d c) (plainCall p c)
+  unfolding plainCall plainBy
+  call-same low high d p c t r h =
+      subst (λ (x : Did Device Seen). Alike x (plainCall p c))
+      (sym (device-by d c ∙ ap (λ (k : ℕ). deviceBy k d c) (refusal-same n low high d p r c)))
+      (by (plainRefusal (p .lines) c) refl h)
+    where
+      by : (k : ℕ) → plainRefusal (p .lines) c ≡ k → PremiseBy k p c → Alike (deviceBy k d c) (plainBy k p c)
+      by zero e g = accepted d p c t r e g
+      by (suc k) e g =
+          subst (λ (x : Did Device Seen). Alike x (plainBy (suc k) p c)) (sym (device-refused k d c)) (record { same = refl; still = r })

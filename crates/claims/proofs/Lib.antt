@@ -1,0 +1,11 @@
+pub mod Lockstep
+pub mod Related
+pub mod Visits
+pub mod Refusals
+pub mod Calls
+pub mod Boot
+pub mod Claims
+pub mod Damages
+pub mod Corollaries
+pub mod Decided
+pub mod Examples

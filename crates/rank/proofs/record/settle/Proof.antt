@@ -1,0 +1,44 @@
+-- `rank::record::settle` meets its contract. Assumes nothing.
+use mathlib.Core.Path.{sym, _∙_}
+use native.Mathlib.Omega.{arith}
+use Rattle.rank.specs.Record.{settledBy}
+use Rattle.rank.specs.RecordLaws.{settled-refused, settled-answered, settled-still}
+use borrow.Author.Needs.{needs}
+use Rattle.rank.proofs.record.settle.Statement.{statement}
+use Rattle.rank.proofs.record.settle.Tie as tie
+
+returns : tie.Need-returns
+returns c = sym (settled-refused ((c .before .before .args .report)) ((c .before .before .args .rank)) _ (c .enum-told2 .given .1))
+
+returns-2 : tie.Need-returns-2
+returns-2 c = sym (settled-still ((c .before .before .before .before .args .report)) ((c .before .before .before .before .args .rank))
+    (c .before .before .enum-told .given .1) (c .if1 .taken) (search needs) (search needs) (omega arith))
+
+returns-3 : tie.Need-returns-3
+unfolding settledBy
+returns-3 c =
+    let a = c .before .before .before .before .before .before .before .before .before .before .args in
+    let first = c .before .before .before .moved in
+    let enum-told = c .before .before .before .before .before .before .before .before .enum-told in
+    (λ i. record {
+      lines = a .rank .lines;
+      enable = a .rank .enable;
+      «catch_words» = (first .ensures) i;
+      registers =
+          (c .before .before .moved2 .ensures) i;
+      repairs = (c .total-after .ensures) i;
+    })
+    ∙ sym (settled-answered (a .report) (a .rank) (enum-told .given .1))
+
+pub settle-spec : {M : Type 1} → statement M
+settle-spec =
+    tie.close
+    (tie.spec
+    (λ c. search needs)
+    (λ c. search needs)
+    returns
+    returns-2
+    (λ c κs. search needs)
+    (λ c κs. search needs)
+    (λ c κs. search needs)
+    returns-3)

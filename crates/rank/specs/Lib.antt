@@ -1,0 +1,12 @@
+pub mod Runs
+pub mod Lines
+pub mod Record
+pub mod Refusals
+pub mod Calls
+pub mod Sweep
+pub mod LineLaws
+pub mod RefusalLaws
+pub mod CallLaws
+pub mod RecordLaws
+pub mod ReadLaws
+pub mod SweepLaws

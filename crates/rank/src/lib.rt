@@ -1,0 +1,202 @@
+// The rank: the record, the refusals and the six calls that firmware links (document 01, "The rank" and "The calls"). No call has a
+// `requires`: each says for every input what it returns and what every byte lent to be written is afterwards. What is lent by `&` can't be
+// written.
+ghost use mathlib.Core.Path.{_≡_};
+ghost use Rattle.rank.specs.Record.{fresh};
+ghost use Rattle.rank.specs.Calls.{bootOf, writeOf, readOf, patrolOf, renewOf, faultOf};
+
+mod lines;
+mod read;
+mod record;
+mod refusals;
+mod sweep;
+
+// The record, held by value: N, the Enable bit, the catch-words as the controller knows them, the registers as the chips hold them, and the
+// repair total.
+#[repr(C)]
+pub struct Rank {
+    pub lines: u32,
+    pub enable: bool,
+    pub catch_words: [u64; 9],
+    pub registers: [u64; 9],
+    pub repairs: u32,
+}
+
+impl Rank {
+    // The most lines that a rank can have.
+    pub const LINE_LIMIT: u32 = 65536;
+
+    // Where the repair total stops.
+    pub const REPAIR_LIMIT: u32 = 4294967295;
+
+    // What a colliding chip's catch-word grows by.
+    pub const CATCH_WORD_STEP: u64 = 0x9E37_79B9_7F4A_7C15;
+
+    // Every field zero.
+    pub fn fresh() -> Self
+        ensures { λ r. ⌜ r ≡ fresh ⌝ }
+    {
+        Rank {
+            lines: 0,
+            enable: false,
+            catch_words: [0u64; 9],
+            registers: [0u64; 9],
+            repairs: 0,
+        }
+    }
+}
+
+// What boot, write, renew and fault return: a refusal by its number in document 01, 0 for none, and the record.
+#[repr(C)]
+pub struct Called {
+    pub refusal: u32,
+    pub rank: Rank,
+}
+
+// What a read returns: also the passes made and the flagged and collision masks, bit K for chip K.
+#[repr(C)]
+pub struct ReadResult {
+    pub refusal: u32,
+    pub passes: u32,
+    pub flagged: u32,
+    pub collisions: u32,
+    pub rank: Rank,
+}
+
+// What a patrol returns: also the lines visited, the lines refused and the words rewritten.
+#[repr(C)]
+pub struct PatrolResult {
+    pub refusal: u32,
+    pub visited: u32,
+    pub refused: u32,
+    pub rewritten: u32,
+    pub rank: Rank,
+}
+
+// Boot: clears the memory and gives the record of as many lines as it holds, with nine catch-words in both copies.
+#[no_mangle]
+pub extern "C" fn rank_boot(memory: &mut [u8], catch_words: &[u64]) -> Called
+    ensures result { λ r. ⌜ r ≡ bootOf (now (memory .entry)) (now («catch_words» .entry)) .result ⌝ }
+    ensures memory { λ _. ⌜ now (memory .exit) ≡ bootOf (now (memory .entry)) (now («catch_words» .entry)) .memory ⌝ }
+{
+    let refusal = refusals::of_boot(memory, catch_words);
+    if refusal != 0 {
+        return Called {
+            refusal,
+            rank: Rank::fresh(),
+        };
+    }
+    lines::clear(memory);
+    Called {
+        refusal: 0,
+        rank: record::booted(memory, catch_words),
+    }
+}
+
+// Write: lays the nine codewords of a line's 64 bytes.
+#[no_mangle]
+pub extern "C" fn rank_write(rank: Rank, memory: &mut [u8], line: u32, bytes: &[u8]) -> Called
+    ensures result { λ r. ⌜ r ≡ writeOf rank (now (memory .entry)) line (now (bytes .entry)) .result ⌝ }
+    ensures memory { λ _. ⌜ now (memory .exit) ≡ writeOf rank (now (memory .entry)) line (now (bytes .entry)) .memory ⌝ }
+{
+    let refusal = refusals::of_buffer(rank, memory, line, bytes);
+    if refusal != 0 {
+        return Called { refusal, rank };
+    }
+    lines::lay(memory, line, bytes);
+    Called { refusal: 0, rank }
+}
+
+// Read: a visit that puts the line in a 64-byte buffer.
+#[no_mangle]
+pub extern "C" fn rank_read(
+    rank: Rank,
+    memory: &mut [u8],
+    line: u32,
+    buffer: &mut [u8],
+) -> ReadResult
+    ensures result { λ r. ⌜ r ≡ readOf rank (now (memory .entry)) line (now (buffer .entry)) .result ⌝ }
+    ensures memory { λ _. ⌜ now (memory .exit) ≡ readOf rank (now (memory .entry)) line (now (buffer .entry)) .memory ⌝ }
+    ensures buffer { λ _. ⌜ now (buffer .exit) ≡ readOf rank (now (memory .entry)) line (now (buffer .entry)) .buffer ⌝ }
+{
+    let refusal = refusals::of_buffer(rank, memory, line, buffer);
+    if refusal != 0 {
+        return ReadResult {
+            refusal,
+            passes: 0,
+            flagged: 0,
+            collisions: 0,
+            rank,
+        };
+    }
+    read::visit_into(rank, memory, line, buffer)
+}
+
+// Patrol (patrol scrub): visits min(budget, N − first) lines from a first line upwards. A refused line doesn't stop it.
+#[no_mangle]
+pub extern "C" fn rank_patrol(
+    rank: Rank,
+    memory: &mut [u8],
+    first: u32,
+    budget: u32,
+) -> PatrolResult
+    ensures result { λ r. ⌜ r ≡ patrolOf rank (now (memory .entry)) first budget .result ⌝ }
+    ensures memory { λ _. ⌜ now (memory .exit) ≡ patrolOf rank (now (memory .entry)) first budget .memory ⌝ }
+{
+    let refusal = refusals::of_line(rank, memory, first);
+    if refusal != 0 {
+        return PatrolResult {
+            refusal,
+            visited: 0,
+            refused: 0,
+            rewritten: 0,
+            rank,
+        };
+    }
+    let left = rank.lines - first;
+    let visited = sweep::allowance(budget, left);
+    let tally = sweep::sweep(rank, memory, first, visited);
+    let after = tally.rank;
+    PatrolResult {
+        refusal: 0,
+        visited,
+        refused: tally.refused,
+        rewritten: tally.rewritten,
+        rank: after,
+    }
+}
+
+// Renew: gives one chip a catch-word of any value, in both copies.
+#[no_mangle]
+pub extern "C" fn rank_renew(rank: Rank, chip: u32, catch_word: u64) -> Called
+    ensures { λ r. ⌜ r ≡ renewOf rank chip «catch_word» ⌝ }
+{
+    let refusal = refusals::of_renew(rank, chip);
+    if refusal != 0 {
+        return Called { refusal, rank };
+    }
+    Called {
+        refusal: 0,
+        rank: record::renewed(rank, chip, catch_word),
+    }
+}
+
+// Fault: xors nine bytes, a pattern, into one chip of one line.
+#[no_mangle]
+pub extern "C" fn rank_fault(
+    rank: Rank,
+    memory: &mut [u8],
+    line: u32,
+    chip: u32,
+    pattern: &[u8],
+) -> Called
+    ensures result { λ r. ⌜ r ≡ faultOf rank (now (memory .entry)) line chip (now (pattern .entry)) .result ⌝ }
+    ensures memory { λ _. ⌜ now (memory .exit) ≡ faultOf rank (now (memory .entry)) line chip (now (pattern .entry)) .memory ⌝ }
+{
+    let refusal = refusals::of_fault(rank, memory, line, chip, pattern);
+    if refusal != 0 {
+        return Called { refusal, rank };
+    }
+    lines::xor_into(memory, line, chip, pattern);
+    Called { refusal: 0, rank }
+}

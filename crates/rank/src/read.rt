@@ -1,0 +1,38 @@
+// The visit of an accepted read.
+ghost use mathlib.Core.Path.{_≡_};
+ghost use Prim.Native.Nat.{_*_, _<_};
+ghost use lib.ListN.{length};
+ghost use Rattle.rank.specs.Calls.{readBy};
+use crate::Rank;
+use crate::ReadResult;
+use crate::lines;
+use crate::record;
+use line::Outcome;
+
+// Visits a line and puts it in a buffer if it is answered.
+pub fn visit_into(rank: Rank, memory: &mut [u8], line: u32, buffer: &mut [u8]) -> ReadResult
+    requires { ⌜ (length (now memory) ≡ 81 * rank .lines) × (line < rank .lines) × (length (now buffer) ≡ 64) ⌝ }
+    ensures result { λ r. ⌜ r ≡ readBy 0 rank (now (memory .entry)) line (now (buffer .entry)) .result ⌝ }
+    ensures memory { λ _. ⌜ now (memory .exit) ≡ readBy 0 rank (now (memory .entry)) line (now (buffer .entry)) .memory ⌝ }
+    ensures buffer { λ _. ⌜ now (buffer .exit) ≡ readBy 0 rank (now (memory .entry)) line (now (buffer .entry)) .buffer ⌝ }
+{
+    let report = lines::visit(memory, line, &rank.catch_words);
+    let outcome = report.outcome;
+    let Outcome::Answered = outcome else {
+        return ReadResult {
+            refusal: line::refusal(outcome),
+            passes: report.passes,
+            flagged: report.flagged,
+            collisions: report.collisions,
+            rank,
+        };
+    };
+    lines::copy(memory, line, buffer);
+    ReadResult {
+        refusal: 0,
+        passes: report.passes,
+        flagged: report.flagged,
+        collisions: report.collisions,
+        rank: record::settle(rank, report),
+    }
+}

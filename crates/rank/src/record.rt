@@ -1,0 +1,105 @@
+// What boot, a visit and renew make of the record.
+ghost use mathlib.Core.Path.{_≡_};
+ghost use mathlib.Core.Bool.{cond};
+ghost use Prim.Native.Nat.{_+_, _/_, _<_, min};
+ghost use lib.ListN.{length};
+ghost use Rattle.rank.specs.Record.{totalLimit, booted, grown, moved, settled};
+ghost use Rattle.rank.specs.Calls.{renewed};
+use crate::Rank;
+use line::Outcome;
+use line::Report;
+
+// The record of an accepted boot.
+pub fn booted(memory: &[u8], catch_words: &[u64]) -> Rank
+    requires { ⌜ (length (now memory) / 81 < 65537) × (length (now «catch_words») ≡ 9) ⌝ }
+    ensures { λ r. ⌜ r ≡ booted (length (now (memory .entry)) / 81) (now («catch_words» .entry)) ⌝ }
+{
+    let words = nine(catch_words);
+    Rank {
+        lines: (memory.len() / 81) as u32,
+        enable: true,
+        catch_words: words,
+        registers: words,
+        repairs: 0,
+    }
+}
+
+// Nine words out of a slice.
+fn nine(words: &[u64]) -> [u64; 9]
+    requires { ⌜ length (now words) ≡ 9 ⌝ }
+    ensures { λ r. ⌜ r ≡ now (words .entry) ⌝ }
+{
+    let mut out = [0u64; 9];
+    for k in 0..9 {
+        out[k] = words[k];
+    }
+    out
+}
+
+// The record with one chip's catch-word and register set.
+pub fn renewed(rank: Rank, chip: u32, catch_word: u64) -> Rank
+    requires { ⌜ chip < 9 ⌝ }
+    ensures { λ r. ⌜ r ≡ renewed rank chip «catch_word» ⌝ }
+{
+    let k = chip as usize;
+    let mut after = rank;
+    after.catch_words[k] = catch_word;
+    after.registers[k] = catch_word;
+    after
+}
+
+// Step 6 of a visit, for the record: only an answered line moves it.
+pub fn settle(rank: Rank, report: Report) -> Rank
+    ensures { λ r. ⌜ r ≡ settled report rank ⌝ }
+{
+    let outcome = report.outcome;
+    let Outcome::Answered = outcome else {
+        return rank;
+    };
+    let chips = report.flagged | report.collisions;
+    if chips == 0 {
+        return rank;
+    }
+    let catch_words = rank.catch_words;
+    let registers = rank.registers;
+    Rank {
+        lines: rank.lines,
+        enable: rank.enable,
+        catch_words: moved(catch_words, report.collisions),
+        registers: moved(registers, report.collisions),
+        repairs: total_after(rank.repairs, u32::count_ones(report.flagged)),
+    }
+}
+
+// Nine catch-words or registers, those of the colliding chips moved.
+fn moved(words: [u64; 9], collisions: u32) -> [u64; 9]
+    ensures { λ r. ⌜ r ≡ moved collisions words ⌝ }
+{
+    let mut out = [0u64; 9];
+    for k in 0..9 {
+        let collides = line::masks::member(collisions, k);
+        out[k] = grown_if(collides, words[k]);
+    }
+    out
+}
+
+// A word, grown by the record's step where a test holds. The carry out of 64 bits is dropped.
+fn grown_if(test: bool, word: u64) -> u64
+    ensures { λ r. ⌜ r ≡ cond test (grown word) word ⌝ }
+{
+    if test {
+        std::num::wrapping_add_u64(word, Rank::CATCH_WORD_STEP)
+    } else {
+        word
+    }
+}
+
+// The repair total after some repairs. It stays at its limit once there.
+fn total_after(total: u32, repairs: u32) -> u32
+    ensures { λ r. ⌜ r ≡ min (total + repairs) totalLimit ⌝ }
+{
+    if Rank::REPAIR_LIMIT - total < repairs {
+        return Rank::REPAIR_LIMIT;
+    }
+    total + repairs
+}

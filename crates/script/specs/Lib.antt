@@ -1,0 +1,14 @@
+pub mod Fields
+pub mod Numbers
+pub mod Events
+pub mod Texts
+pub mod Answers
+pub mod Sessions
+pub mod FieldLaws
+pub mod NumberLaws
+pub mod EventLaws
+pub mod TextLaws
+pub mod AnswerLaws
+pub mod SessionLaws
+pub mod SmallLaws
+pub mod ReadBackLaws

@@ -1,0 +1,110 @@
+-- Laws of how large the numbers are that are printed: a refusal has at most two decimal digits, the passes one, and a mask three
+-- hexadecimal digits, so that `decimalText` and `hexText` print them whole.
+-- Assumes nothing.
+use mathlib.Core.Bool.{Bool, true, false, cond}
+use mathlib.Core.List.{List, [], _∷_, _++_}
+use Prim.Native.Nat.{ℕ, zero, suc, _+_, _<_}
+use native.Mathlib.Omega.{arith}
+use lib.Dec.{eqb, ltb, lit<}
+use Rattle.code.specs.Lists.{Every}
+use Rattle.line.specs.Chips.{bit, mask, count, xorAll}
+use Rattle.line.specs.ChipLaws.{mask-lt}
+use Rattle.line.specs.Visit.{passOne, passThree, isCandidate, isFlagged, isCollision, flaggedChips, mustCancel, outcomeBy, outcomeOf, passesOf, reportOf, refusalOf}
+use Rattle.line.specs.declared.Outcome.the-variants.{Answered, Refused}
+use Rattle.rank.specs.Refusals.{lineOut, bufferOut, chipOut, patternOut, notReady, memoryDiffers, registerDiffers, refusedIf, firstOf, stateRefusals, bufferRefusal, faultRefusal}
+use Rattle.rank.specs.Lines.{lineAt}
+use Rattle.rank.specs.Calls.{visitOf, writeBy, writeOf, readResult, readBy, readOf, faultBy, faultOf}
+use Rattle.rank.specs.declared.Rank.{Rank}
+use Rattle.rank.specs.declared.ReadResult.{ReadResult}
+
+-- ---- refusals
+
+first-lt : (ns : List ℕ) → Every (λ k. k < 100) ns → firstOf ns < 100
+unfolding Every
+first-lt [] h = lit< tt
+first-lt (zero ∷ ns) h = first-lt ns (h .1)
+first-lt (suc k ∷ ns) h = h .0
+
+if-lt : (b : Bool) (k : ℕ) → k < 100 → refusedIf b k < 100
+if-lt true k h = h
+if-lt false k h = lit< tt
+
+state-lt : (r : Rank) (m ns : List ℕ) → Every (λ k. k < 100) ns → Every (λ k. k < 100) (stateRefusals r m ++ ns)
+unfolding Every
+state-lt r m ns h = (if-lt (notReady r) 12 (lit< tt), (if-lt (memoryDiffers r m) 13 (lit< tt), (if-lt (registerDiffers r) 14 (lit< tt), h)))
+
+buffer-lt : (r : Rank) (m : List ℕ) (l : ℕ) (b : List ℕ) → bufferRefusal r m l b < 100
+unfolding bufferRefusal Every
+buffer-lt r m l b =
+    first-lt (stateRefusals r m ++ (refusedIf (lineOut r l) 1 ∷ refusedIf (bufferOut b) 2 ∷ []))
+    (state-lt r m (refusedIf (lineOut r l) 1 ∷ refusedIf (bufferOut b) 2 ∷ [])
+    (if-lt (lineOut r l) 1 (lit< tt), (if-lt (bufferOut b) 2 (lit< tt), tt)))
+
+fault-lt : (r : Rank) (m : List ℕ) (l k : ℕ) (p : List ℕ) → faultRefusal r m l k p < 100
+unfolding faultRefusal Every
+fault-lt r m l k p =
+    first-lt (stateRefusals r m ++ (refusedIf (lineOut r l) 1 ∷ refusedIf (chipOut k) 3 ∷ refusedIf (patternOut p) 4 ∷ []))
+    (state-lt r m (refusedIf (lineOut r l) 1 ∷ refusedIf (chipOut k) 3 ∷ refusedIf (patternOut p) 4 ∷ [])
+    (if-lt (lineOut r l) 1 (lit< tt), (if-lt (chipOut k) 3 (lit< tt), (if-lt (patternOut p) 4 (lit< tt), tt))))
+
+write-by : (n : ℕ) (r : Rank) (m : List ℕ) (l : ℕ) (b : List ℕ) → n < 100 → writeBy n r m l b .result .refusal < 100
+unfolding writeBy
+write-by zero r m l b h = h
+write-by (suc n) r m l b h = h
+
+pub write-small : (r : Rank) (m : List ℕ) (l : ℕ) (b : List ℕ) → writeOf r m l b .result .refusal < 100
+unfolding writeOf
+write-small r m l b = write-by (bufferRefusal r m l b) r m l b (buffer-lt r m l b)
+
+fault-by : (n : ℕ) (r : Rank) (m : List ℕ) (l k : ℕ) (p : List ℕ) → n < 100 → faultBy n r m l k p .result .refusal < 100
+unfolding faultBy
+fault-by zero r m l k p h = h
+fault-by (suc n) r m l k p h = h
+
+pub fault-small : (r : Rank) (m : List ℕ) (l k : ℕ) (p : List ℕ) → faultOf r m l k p .result .refusal < 100
+unfolding faultOf
+fault-small r m l k p = fault-by (faultRefusal r m l k p) r m l k p (fault-lt r m l k p)
+
+-- ---- what a read reports
+
+pub record Small (v : ReadResult) : Type 0 where
+  pub refusal : v .refusal < 100
+  pub passes : v .passes < 10
+  pub flagged : v .flagged < 4096
+  pub collisions : v .collisions < 4096
+
+cancel-lt : (t : Bool) (n : ℕ) → n < 100 → refusalOf (cond t Answered (Refused n)) < 100
+unfolding refusalOf
+cancel-lt true n h = lit< tt
+cancel-lt false n h = h
+
+outcome-lt : (n : ℕ) (m cws : List ℕ) → refusalOf (outcomeBy n m cws) < 100
+unfolding outcomeBy mustCancel refusalOf
+outcome-lt zero m cws = cancel-lt (eqb (xorAll (passOne m cws) 9) 0) 20 (lit< tt)
+outcome-lt (suc zero) m cws = lit< tt
+outcome-lt (suc (suc n)) m cws = cancel-lt (eqb (xorAll (passThree m cws) 9) 0) 21 (lit< tt)
+
+passes-lt : (t u : Bool) → 1 + bit t + bit u < 10
+passes-lt true true = lit< tt
+passes-lt true false = lit< tt
+passes-lt false true = lit< tt
+passes-lt false false = lit< tt
+
+three-digits : (p : ℕ → Bool) → mask p 9 < 4096
+three-digits p = let h = mask-lt p 9 in omega arith
+
+read-by : (n : ℕ) (r : Rank) (m : List ℕ) (l : ℕ) (b : List ℕ) → n < 100 → Small (readBy n r m l b .result)
+unfolding readBy readResult visitOf reportOf outcomeOf passesOf
+read-by zero r m l b h =
+    record {
+      refusal = outcome-lt (flaggedChips (lineAt m l) (r .«catch_words»)) (lineAt m l) (r .«catch_words»);
+      passes =
+          passes-lt (ltb 0 (count (isCandidate (lineAt m l) (r .«catch_words»)) 9)) (ltb 1 (flaggedChips (lineAt m l) (r .«catch_words»)));
+      flagged = three-digits (isFlagged (lineAt m l) (r .«catch_words»));
+      collisions = three-digits (isCollision (lineAt m l) (r .«catch_words»));
+    }
+read-by (suc n) r m l b h = record { refusal = h; passes = lit< tt; flagged = lit< tt; collisions = lit< tt }
+
+pub read-small : (r : Rank) (m : List ℕ) (l : ℕ) (b : List ℕ) → Small (readOf r m l b .result)
+unfolding readOf
+read-small r m l b = read-by (bufferRefusal r m l b) r m l b (buffer-lt r m l b)

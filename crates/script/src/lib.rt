@@ -1,0 +1,138 @@
+// Scripts for program `bench` (document 01, "Bench examples"): a line is read, its call is made, and its answer is spelled. Nothing here
+// reads or writes a file.
+ghost use mathlib.Core.Path.{_≡_};
+ghost use Prim.Native.Nat.{_+_, _≤_};
+ghost use lib.ListN.{length, replicate};
+ghost use Rattle.rank.specs.Calls.{writeOf, readOf, faultOf};
+ghost use Rattle.script.specs.Texts.{unknownText, Laid};
+ghost use Rattle.script.specs.Answers.{Replies, callReply, readReply, replyTo};
+use rank::Rank;
+
+pub mod events;
+pub mod fields;
+mod numbers;
+pub mod sessions;
+mod texts;
+mod words;
+
+use events::Event;
+
+// What a line leaves beside the memory: how many bytes of output there are with its answer, and the record.
+pub struct Answered {
+    pub length: usize,
+    pub rank: Rank,
+}
+
+// Answers a line, its line feed left out: makes the call that it asks for, and puts what is printed for it in the output, from a place on.
+pub fn answer(rank: Rank, memory: &mut [u8], line: &[u8], out: &mut [u8], at: usize) -> Answered
+    requires { ⌜ at + 32 ≤ length (now out) ⌝ }
+    ensures reply { λ r. ⌜ Replies (replyTo (now (line .entry)) rank (now (memory .entry)))
+        r (now (memory .exit)) at (now (out .entry)) (now (out .exit)) ⌝ }
+    ensures most { λ r. ⌜ r .length ≤ at + 32 ⌝ }
+{
+    let event = events::event_of(line);
+    match event {
+        Event::Write { line, byte } => answer_write(rank, memory, line, byte, out, at),
+        Event::Read { line } => answer_read(rank, memory, line, out, at),
+        Event::Fault {
+            line,
+            chip,
+            word,
+            check,
+        } => answer_fault(
+            rank,
+            memory,
+            line,
+            chip,
+            words::pattern(word, check),
+            out,
+            at,
+        ),
+        Event::Unknown => answer_unknown(rank, out, at),
+    }
+}
+
+// Writes 64 equal bytes to a line.
+fn answer_write(
+    rank: Rank,
+    memory: &mut [u8],
+    line: u32,
+    byte: u8,
+    out: &mut [u8],
+    at: usize,
+) -> Answered
+    requires { ⌜ at + 32 ≤ length (now out) ⌝ }
+    ensures reply { λ r. ⌜ Replies (callReply 119 (writeOf rank (now (memory .entry)) line (replicate 64 byte)))
+        r (now (memory .exit)) at (now (out .entry)) (now (out .exit)) ⌝ }
+    ensures most { λ r. ⌜ r .length ≤ at + 32 ⌝ }
+{
+    let bytes = [byte; 64];
+    let called = rank::rank_write(rank, memory, line, &bytes);
+    let length = texts::spell_call(out, at, b'w', called.refusal);
+    let after = called.rank;
+    Answered {
+        length,
+        rank: after,
+    }
+}
+
+// Reads a line.
+fn answer_read(rank: Rank, memory: &mut [u8], line: u32, out: &mut [u8], at: usize) -> Answered
+    requires { ⌜ at + 32 ≤ length (now out) ⌝ }
+    ensures reply { λ r. ⌜ Replies (readReply (readOf rank (now (memory .entry)) line (replicate 64 0)))
+        r (now (memory .exit)) at (now (out .entry)) (now (out .exit)) ⌝ }
+    ensures most { λ r. ⌜ r .length ≤ at + 32 ⌝ }
+{
+    let mut buffer = [0u8; 64];
+    let read = rank::rank_read(rank, memory, line, &mut buffer);
+    let after = read.rank;
+    let refusal = read.refusal;
+    if refusal != 0 {
+        let length = texts::spell_call(out, at, b'r', refusal);
+        return Answered {
+            length,
+            rank: after,
+        };
+    }
+    let word = words::first(&buffer);
+    let length = texts::spell_read(out, at, word, read.passes, read.flagged, read.collisions);
+    Answered {
+        length,
+        rank: after,
+    }
+}
+
+// Xors a pattern into a chip of a line.
+fn answer_fault(
+    rank: Rank,
+    memory: &mut [u8],
+    line: u32,
+    chip: u32,
+    pattern: [u8; 9],
+    out: &mut [u8],
+    at: usize,
+) -> Answered
+    requires { ⌜ at + 32 ≤ length (now out) ⌝ }
+    ensures reply { λ r. ⌜ Replies (callReply 102 (faultOf rank (now (memory .entry)) line chip pattern))
+        r (now (memory .exit)) at (now (out .entry)) (now (out .exit)) ⌝ }
+    ensures most { λ r. ⌜ r .length ≤ at + 32 ⌝ }
+{
+    let called = rank::rank_fault(rank, memory, line, chip, &pattern);
+    let length = texts::spell_call(out, at, b'f', called.refusal);
+    let after = called.rank;
+    Answered {
+        length,
+        rank: after,
+    }
+}
+
+// Makes no call.
+fn answer_unknown(rank: Rank, out: &mut [u8], at: usize) -> Answered
+    requires { ⌜ at + 32 ≤ length (now out) ⌝ }
+    ensures rank { λ r. ⌜ r .rank ≡ rank ⌝ }
+    ensures laid { λ r. ⌜ Laid (now (out .entry)) at unknownText (now (out .exit)) (r .length) ⌝ }
+    ensures most { λ r. ⌜ r .length ≤ at + 32 ⌝ }
+{
+    let length = texts::spell_unknown(out, at);
+    Answered { length, rank }
+}

@@ -1,0 +1,72 @@
+// Numbers of a script: decimal and hexadecimal fields.
+ghost use mathlib.Core.Path.{_≡_};
+ghost use Prim.Native.Nat.{_≤_};
+ghost use lib.ListN.{length};
+ghost use Rattle.script.specs.Numbers.{digitOf, isNumeral, isDecimal, isHex, valueOf, numberIf};
+
+// What a field holds: a number, or something else.
+pub enum Number {
+    Is(u64),
+    Malformed,
+}
+
+// The number of a decimal field, one to nine digits.
+pub fn decimal(field: &[u8]) -> Number
+    ensures { λ r. ⌜ r ≡ numberIf (isDecimal (now (field .entry))) (valueOf 10 (now (field .entry))) ⌝ }
+{
+    if field.len() == 0 {
+        return Number::Malformed;
+    }
+    if field.len() > 9 {
+        return Number::Malformed;
+    }
+    numeral(field, 10)
+}
+
+// The number of a hexadecimal field of some digits, sixteen at most.
+pub fn hexadecimal(field: &[u8], digits: usize) -> Number
+    requires { ⌜ digits ≤ 16 ⌝ }
+    ensures { λ r. ⌜ r ≡ numberIf (isHex digits (now (field .entry))) (valueOf 16 (now (field .entry))) ⌝ }
+{
+    if field.len() != digits {
+        return Number::Malformed;
+    }
+    numeral(field, 16)
+}
+
+// The number of digits in a base.
+fn numeral(field: &[u8], base: u64) -> Number
+    requires { ⌜ (length (now field) ≤ 16) × (base ≤ 16) ⌝ }
+    ensures { λ r. ⌜ r ≡ numberIf (isNumeral base (now (field .entry))) (valueOf base (now (field .entry))) ⌝ }
+{
+    let mut value = 0u64;
+    let mut i = 0;
+    while i < field.len() {
+        let digit = digit_of(field[i]);
+        if base <= digit {
+            return Number::Malformed;
+        }
+        value = value * base + digit;
+        i += 1;
+    }
+    Number::Is(value)
+}
+
+// The digit of a byte, 16 for a byte that is none.
+fn digit_of(byte: u8) -> u64
+    ensures { λ r. ⌜ r ≡ digitOf byte ⌝ }
+{
+    if byte < 48 {
+        return 16;
+    }
+    if byte <= 57 {
+        return (byte - 48) as u64;
+    }
+    if byte < 97 {
+        return 16;
+    }
+    if byte <= 102 {
+        return (byte - 87) as u64;
+    }
+    16
+}

@@ -1,0 +1,301 @@
+// The calls on a rank of four lines. A trial says what a call returns and leaves: the memory before and after is made by `layout`. Trial
+// i has a line of its own, and the other lines are clear.
+use super::layout::CATCH_WORDS;
+use super::layout::chip_bit;
+use super::layout::inverted;
+use super::layout::laid;
+use super::layout::line_bytes;
+use super::layout::with_line;
+use super::layout::with_wide;
+use super::layout::words_of;
+use super::results;
+use rank::Rank;
+
+// What a colliding chip's catch-word grows by.
+const STEP: u64 = 0x9e37_79b9_7f4a_7c15;
+
+// A record and a memory.
+struct State {
+    record: Rank,
+    memory: [u8; 324],
+}
+
+// The catch-words in both copies, a repair total, and a memory.
+fn holding(catch_words: [u64; 9], repairs: u32, memory: [u8; 324]) -> State {
+    State {
+        record: results::record(4, catch_words, repairs),
+        memory,
+    }
+}
+
+// A memory with one line that is not clear.
+fn only(line: u64, bytes: [u8; 81]) -> [u8; 324] {
+    with_line([0u8; 324], line, bytes)
+}
+
+// Whether a line that is written is laid, and the other lines stay, of which one is not clear.
+pub fn writes(i: u64) -> bool {
+    let words = words_of(i);
+    let before = only(i / 4, laid(words_of(i / 4 + 500)));
+    let after = with_line(before, i, laid(words));
+    write_leaves(
+        holding(CATCH_WORDS, 5, before),
+        (i % 4) as u32,
+        line_bytes(words),
+        holding(CATCH_WORDS, 5, after),
+    )
+}
+
+// Whether a fault inverts bit i of a line's 648, and a read gives the line and repairs it.
+pub fn reads_damaged(i: u64) -> bool {
+    let words = words_of(i);
+    let sound = only(i, laid(words));
+    let damaged = only(i, inverted(laid(words), i));
+    let line = (i % 4) as u32;
+    let before = holding(CATCH_WORDS, 5, damaged);
+    fault_leaves(
+        holding(CATCH_WORDS, 5, sound),
+        line,
+        (i / 72 % 9) as u32,
+        pattern_of(i),
+        before,
+    )
+        && read_leaves(
+            before,
+            line,
+            [0, 2, chip_bit(i / 72), 0],
+            holding(CATCH_WORDS, 6, sound),
+            line_bytes(words),
+        )
+}
+
+// The pattern with bit i of its 72 set.
+fn pattern_of(i: u64) -> [u8; 9] {
+    let mut pattern = [0u8; 9];
+    pattern[(i % 72 / 8) as usize] = 1 << (i % 8);
+    pattern
+}
+
+// Whether a read is refused 20, and changes nothing, where the codeword of word 1 is the pattern of chip i.
+pub fn refuses_parity(i: u64) -> bool {
+    let words = words_of(i);
+    let before = holding(CATCH_WORDS, 5, only(2, laid(words)));
+    let damaged = holding(CATCH_WORDS, 5, only(2, laid(other_word(words, i))));
+    fault_leaves(
+        before,
+        2,
+        (i % 9) as u32,
+        [0, 0, 0, 0, 0, 0, 0, 1, 7],
+        damaged,
+    )
+        && read_refused(damaged, 2, [20, 1, 0, 0])
+}
+
+// Words of which one has its lowest bit inverted.
+fn other_word(words: [u64; 9], chip: u64) -> [u64; 9] {
+    let k = (chip % 9) as usize;
+    replaced(words, chip, words[k] ^ 1)
+}
+
+fn replaced(words: [u64; 9], chip: u64, word: u64) -> [u64; 9] {
+    let mut out = words;
+    out[(chip % 9) as usize] = word;
+    out
+}
+
+// Whether a read that is refused 20 or 21 moves no catch-word, where chip i is a collision.
+pub fn refused_moves_none(i: u64) -> bool {
+    let words = words_of(i);
+    let k = (i % 9) as usize;
+    let met = replaced(CATCH_WORDS, i, words[k]);
+    let parity = holding(met, 5, only(2, laid(other_word(words, i % 9 + 1))));
+    let mended = holding(met, 5, only(2, beyond_repair(laid(words), i)));
+    read_refused(parity, 2, [20, 2, 0, chip_bit(i)])
+        && read_refused(
+            mended,
+            2,
+            [
+                21,
+                3,
+                chip_bit(i % 9 + 1) | chip_bit(i % 9 + 2),
+                chip_bit(i),
+            ],
+        )
+}
+
+// A line that can't be mended: 07h on the check byte of the chip after chip i, and one bit inverted in the one after that.
+fn beyond_repair(line: [u8; 81], i: u64) -> [u8; 81] {
+    inverted(with_wide(line, i % 9 + 1), (i % 9 + 2) % 9 * 72)
+}
+
+// Whether renew sets both copies of chip i's catch-word, and a read of a line that has it moves both.
+pub fn moves(i: u64) -> bool {
+    let words = words_of(i);
+    let k = (i % 9) as usize;
+    let met = replaced(CATCH_WORDS, i, words[k]);
+    let moved = replaced(CATCH_WORDS, i, grown(words[k]));
+    renew_gives(
+        results::record(4, CATCH_WORDS, 5),
+        (i % 9) as u32,
+        words[k],
+        results::record(4, met, 5),
+    )
+        && collides(words, met, moved, chip_bit(i))
+}
+
+fn grown(word: u64) -> u64 {
+    std::num::wrapping_add_u64(word, STEP)
+}
+
+// Whether all nine catch-words move, eight of them with a carry out.
+pub fn all_move() -> bool {
+    let words = replaced([0xffff_ffff_ffff_ffff; 9], 8, 0);
+    let moved = replaced([0x9e37_79b9_7f4a_7c14; 9], 8, STEP);
+    collides(words, words, moved, 0x1ff)
+}
+
+// Whether the first read of a line has these collisions and moves the catch-words, and the next has none.
+fn collides(words: [u64; 9], met: [u64; 9], moved: [u64; 9], mask: u32) -> bool {
+    let memory = only(1, laid(words));
+    let after = holding(moved, 5, memory);
+    read_leaves(
+        holding(met, 5, memory),
+        1,
+        [0, 2, 0, mask],
+        after,
+        line_bytes(words),
+    )
+        && read_leaves(after, 1, [0, 1, 0, 0], after, line_bytes(words))
+}
+
+// Whether the repair total grows by two where two chips are mended, by a read and by a patrol, and stays at its most.
+pub fn counts_repairs(i: u64) -> bool {
+    match i % 4 {
+        0 => total_grows(0, 2),
+        1 => total_grows(4294967293, 4294967295),
+        2 => total_grows(4294967294, 4294967295),
+        _ => total_grows(4294967295, 4294967295),
+    }
+}
+
+fn total_grows(before: u32, after: u32) -> bool {
+    let words = words_of(0);
+    let damaged = holding(CATCH_WORDS, before, only(0, two_inverted(laid(words))));
+    let repaired = holding(CATCH_WORDS, after, only(0, laid(words)));
+    read_leaves(damaged, 0, [0, 3, 0x101, 0], repaired, line_bytes(words))
+        && patrol_leaves(damaged, 0, 1, [0, 1, 0, 2], repaired)
+}
+
+// A line with one bit inverted in chip 0 and one in chip 8.
+fn two_inverted(line: [u8; 81]) -> [u8; 81] {
+    inverted(inverted(line, 0), 640)
+}
+
+// Whether a patrol repairs what it visits: line 1 has one chip damaged, line 2 can't be mended, and line 3 has two chips damaged.
+pub fn patrols(i: u64) -> bool {
+    let line = laid(words_of(i));
+    let rest = only(2, beyond_repair(line, i));
+    let damaged = with_line(with_line(rest, 1, inverted(line, 3)), 3, two_inverted(line));
+    let first = with_line(damaged, 1, line);
+    patrol_repairs(
+        damaged,
+        0,
+        4294967295,
+        [0, 4, 1, 3],
+        with_line(first, 3, line),
+    )
+        && patrol_repairs(damaged, 0, 3, [0, 3, 1, 1], first)
+        && patrol_repairs(damaged, 2, 2, [0, 2, 1, 2], with_line(damaged, 3, line))
+        && patrol_repairs(damaged, 2, 1, [0, 1, 1, 0], damaged)
+}
+
+// Whether the repair total grows by the words rewritten, too.
+fn patrol_repairs(
+    before: [u8; 324],
+    first: u32,
+    budget: u32,
+    numbers: [u32; 4],
+    after: [u8; 324],
+) -> bool {
+    patrol_leaves(
+        holding(CATCH_WORDS, 0, before),
+        first,
+        budget,
+        numbers,
+        holding(CATCH_WORDS, numbers[3], after),
+    )
+}
+
+// Whether a patrol moves chip i's catch-word twice, where line 1 has it as it is and line 2 as line 1 leaves it.
+pub fn patrol_moves(i: u64) -> bool {
+    let words = words_of(i);
+    let k = (i % 9) as usize;
+    let once = grown(words[k]);
+    let second = replaced(replaced([0u64; 9], i, once), i % 9 + 1, once);
+    let memory = with_line(only(1, laid(words)), 2, laid(second));
+    let before = holding(replaced(CATCH_WORDS, i, words[k]), 5, memory);
+    let after = holding(replaced(CATCH_WORDS, i, grown(once)), 5, memory);
+    patrol_leaves(before, 0, 4, [0, 4, 0, 0], after)
+}
+
+// Whether document 01's example of program `bench` ends as it says: of a line of 64 bytes 11h chips 3 and 5 are damaged, and it is
+// refused 21.
+pub fn example() -> bool {
+    let moved = replaced([0xaf48_8aca_905b_8d26; 9], 8, 0x1111_1111_1111_1111);
+    let line = laid(replaced([0x1111_1111_1111_1111; 9], 8, 0));
+    let first = holding(moved, 1, only(0, with_wide(line, 3)));
+    let second = holding(moved, 1, only(0, inverted(with_wide(line, 3), 416)));
+    fault_leaves(
+        holding(moved, 1, only(0, line)),
+        0,
+        3,
+        [0, 0, 0, 0, 0, 0, 0, 0, 7],
+        first,
+    )
+        && fault_leaves(first, 0, 5, [0, 0, 0, 0, 0, 0, 0, 1, 0], second)
+        && read_refused(second, 0, [21, 3, 0x028, 0])
+}
+
+// What each call returns and leaves.
+fn write_leaves(before: State, line: u32, bytes: [u8; 64], after: State) -> bool {
+    let mut memory = before.memory;
+    let left = after.memory;
+    let called = rank::rank_write(before.record, &mut memory, line, &bytes);
+    results::called_is(called, 0, after.record) && same(&memory, &left)
+}
+
+fn fault_leaves(before: State, line: u32, chip: u32, pattern: [u8; 9], after: State) -> bool {
+    let mut memory = before.memory;
+    let left = after.memory;
+    let called = rank::rank_fault(before.record, &mut memory, line, chip, &pattern);
+    results::called_is(called, 0, after.record) && same(&memory, &left)
+}
+
+fn renew_gives(before: Rank, chip: u32, catch_word: u64, after: Rank) -> bool {
+    results::called_is(rank::rank_renew(before, chip, catch_word), 0, after)
+}
+
+fn read_refused(before: State, line: u32, numbers: [u32; 4]) -> bool {
+    read_leaves(before, line, numbers, before, [0x5au8; 64])
+}
+
+fn read_leaves(before: State, line: u32, numbers: [u32; 4], after: State, bytes: [u8; 64]) -> bool {
+    let mut memory = before.memory;
+    let mut buffer = [0x5au8; 64];
+    let left = after.memory;
+    let read = rank::rank_read(before.record, &mut memory, line, &mut buffer);
+    results::read_is(read, numbers, after.record)
+        && same(&memory, &left)
+        && check::same(&buffer, &bytes)
+}
+
+fn patrol_leaves(before: State, first: u32, budget: u32, numbers: [u32; 4], after: State) -> bool {
+    let mut memory = before.memory;
+    let left = after.memory;
+    let patrolled = rank::rank_patrol(before.record, &mut memory, first, budget);
+    results::patrol_is(patrolled, numbers, after.record) && same(&memory, &left)
+}
+
+fn same(a: &[u8; 324], b: &[u8; 324]) -> bool {
+    check::same(a, b)
+}
