@@ -1,6 +1,6 @@
 -- Document 01, "Bench examples", program `bench`: what a line's event does to the record and the lent memory, and what is printed for it.
 -- r stands for the record, m for the lent memory and l for a line's number.
--- Definitions alone.
+-- Definitions alone; what holds of them is in `AnswerLaws`.
 use Prim.Native.Nat.{ℕ, zero, suc}
 use mathlib.Core.Path.{_≡_}
 use mathlib.Core.List.{List, [], _∷_, _++_}

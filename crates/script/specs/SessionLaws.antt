@@ -18,7 +18,7 @@ use Rattle.script.specs.EventLaws.{kept-event}
 use Rattle.script.specs.Texts.{Laid}
 use Rattle.script.specs.TextLaws.{laid-then, laid-as}
 use Rattle.script.specs.Answers.{Reply, replyBy, replyTo, Replies}
-use Rattle.script.specs.Sessions.{Session, goesOn, ends, endsBy, fed, finishedBy, finished, part, At, Advance, Finish}
+use Rattle.script.specs.Sessions.{Session, goesOn, ends, endsBy, fed, finishedBy, finished, unprinted, start, outputOf, part, At, Stands, Follows, Advance, Finish}
 use Rattle.script.specs.declared.Answered.{Answered}
 use Rattle.script.specs.declared.events.Event.{Event}
 use Rattle.script.specs.declared.sessions.Progress.{Progress}
@@ -88,6 +88,82 @@ pub fed-append : (g : Session) (xs ys : List ℕ) → fed g (xs ++ ys) ≡ fed (
 unfolding fed
 fed-append g [] ys = refl
 fed-append g (x ∷ xs) ys = fed-append (cond (eqb x lineFeed) (ends g) (goesOn g x)) xs ys
+
+-- the same session with a text printed before all that it printed
+unfoldable printedAfter : List ℕ → Session → Session
+printedAfter t g = record { rank = g .rank; memory = g .memory; begun = g .begun; printed = t ++ g .printed }
+
+ends-after : (t : List ℕ) (g : Session) → ends (printedAfter t g) ≡ printedAfter t (ends g)
+unfolding printedAfter ends endsBy
+ends-after t g =
+    let q : Reply = replyTo (g .begun) (g .rank) (g .memory) in
+    ap (λ (s : List ℕ). record { rank = q .rank; memory = q .memory; begun = []; printed = s }) (append-assoc t (g .printed) (q .text))
+
+byte-after : (u : Bool) (t : List ℕ) (g : Session) (b : ℕ) → cond u (ends (printedAfter t g)) (goesOn (printedAfter t g) b) ≡ printedAfter t
+    (cond u (ends g) (goesOn g b))
+unfolding printedAfter goesOn
+byte-after true t g b = ends-after t g
+byte-after false t g b = refl
+
+fed-after : (t : List ℕ) (g : Session) (s : List ℕ) → fed (printedAfter t g) s ≡ printedAfter t (fed g s)
+unfolding fed
+fed-after t g [] = refl
+fed-after t g (b ∷ s) =
+    ap (λ (x : Session). fed x s) (byte-after (eqb b lineFeed) t g b) ∙ fed-after t (cond (eqb b lineFeed) (ends g) (goesOn g b)) s
+
+finished-after : (s t : List ℕ) (g : Session) → finishedBy s (printedAfter t g) ≡ printedAfter t (finishedBy s g)
+unfolding finishedBy
+finished-after [] t g = refl
+finished-after (b ∷ s) t g = ends-after t g
+
+all-after : (g : Session) → g ≡ printedAfter (g .printed) (unprinted g)
+unfolding printedAfter unprinted
+all-after g = ap (λ (s : List ℕ). record { rank = g .rank; memory = g .memory; begun = g .begun; printed = s })
+    (sym (append-nil (g .printed)))
+
+-- a session adds to what it printed just what the same session with nothing printed prints, and they are alike in all else
+fed-split : (g : Session) (s : List ℕ) → fed g s ≡ printedAfter (g .printed) (fed (unprinted g) s)
+fed-split g s = ap (λ (x : Session). fed x s) (all-after g) ∙ fed-after (g .printed) (unprinted g) s
+
+pub fed-printed : (g : Session) (s : List ℕ) → fed g s .printed ≡ g .printed ++ fed (unprinted g) s .printed
+unfolding printedAfter
+fed-printed g s = ap (λ (x : Session). x .printed) (fed-split g s)
+
+pub fed-rank : (g : Session) (s : List ℕ) → fed g s .rank ≡ fed (unprinted g) s .rank
+unfolding printedAfter
+fed-rank g s = ap (λ (x : Session). x .rank) (fed-split g s)
+
+pub fed-memory : (g : Session) (s : List ℕ) → fed g s .memory ≡ fed (unprinted g) s .memory
+unfolding printedAfter
+fed-memory g s = ap (λ (x : Session). x .memory) (fed-split g s)
+
+pub fed-begun : (g : Session) (s : List ℕ) → fed g s .begun ≡ fed (unprinted g) s .begun
+unfolding printedAfter
+fed-begun g s = ap (λ (x : Session). x .begun) (fed-split g s)
+
+-- so at the end of the input
+finished-split : (g : Session) → finished g ≡ printedAfter (g .printed) (finished (unprinted g))
+unfolding finished unprinted
+finished-split g = ap (finishedBy (g .begun)) (all-after g) ∙ finished-after (g .begun) (g .printed) (unprinted g)
+
+pub finished-printed : (g : Session) → finished g .printed ≡ g .printed ++ finished (unprinted g) .printed
+unfolding printedAfter
+finished-printed g = ap (λ (x : Session). x .printed) (finished-split g)
+
+pub finished-memory : (g : Session) → finished g .memory ≡ finished (unprinted g) .memory
+unfolding printedAfter
+finished-memory g = ap (λ (x : Session). x .memory) (finished-split g)
+
+-- what is printed for a whole input is what was printed for its first part, and then what a session that has printed nothing prints for the
+-- rest: so a run may empty its output after each part
+pub output-parts : (r : Rank) (m s t : List ℕ)
+    → outputOf r m (s ++ t) ≡ fed (start r m) s .printed ++ finished (fed (unprinted (fed (start r m) s)) t) .printed
+unfolding outputOf finished printedAfter
+output-parts r m s t =
+    let g : Session = fed (start r m) s in
+    let h : Session = fed (unprinted g) t in
+    ap (λ (x : Session). finished x .printed) (fed-append (start r m) s t ∙ fed-split g t)
+    ∙ ap (λ (x : Session). x .printed) (finished-after (h .begun) (g .printed) h)
 
 -- the line that has begun goes on with bytes
 unfoldable pub goesOnWith : Session → List ℕ → Session
@@ -306,6 +382,79 @@ going-more {start} {p} {r} {bytes} {m₀} {l₀} {o₀} {m} {l} {o} {m′} {l′
       line-size = el ∙ h .line-size;
       out-size = eo ∙ h .out-size;
       unmoved = λ e. absurd (omega (arith, before .taken-least));
+    }
+
+-- ---- a run whose output is emptied before it goes on
+
+part-whole : (s : List ℕ) (e : ℕ) → length s ≤ e → part s 0 e ≡ s
+unfolding part
+part-whole s e h = ap (λ (k : ℕ). take k s) (sub-zero e) ∙ take-all e s h
+
+-- what was printed before does not matter
+emptied : {g : Session} {p : Progress} {m l : List ℕ} (o : List ℕ) → p .length ≡ 0 → Stands g p m l → At (unprinted g) o p m l o
+unfolding unprinted
+emptied o e h =
+    record { rank-is = h .rank-is; memory-is = h .memory-is; begun-is = h .begun-is; printed-is = record { bytes = refl; behind = e } }
+
+pub advance-follows : {p r : Progress} {bytes m l o m′ l′ o′ : List ℕ} → p .length ≡ 0 → Advance p r bytes m l o m′ l′ o′
+    → Follows p r (part bytes (p .taken) (r .taken)) m l m′ l′
+advance-follows {p} {r} {bytes} {m} {l} {o} {m′} {l′} {o′} e a =
+    let s : List ℕ = part bytes (p .taken) (r .taken) in
+    record {
+      session = λ g h.
+          let at : At (fed (unprinted g) s) o r m′ l′ o′ = a .session (unprinted g) o (emptied o e h) in
+          record {
+            rank-is = at .rank-is ∙ sym (fed-rank g s);
+            memory-is = at .memory-is ∙ sym (fed-memory g s);
+            begun-is = at .begun-is ∙ ap (λ (t : List ℕ). take 41 t) (sym (fed-begun g s));
+          };
+    }
+
+-- a run that has taken up nothing of a part of the input
+pub follows-none : (p : Progress) (bytes m l : List ℕ) → p .taken ≡ 0 → Follows p p (part bytes 0 (p .taken)) m l m l
+unfolding fed
+follows-none p bytes m l e =
+    record {
+      session = λ g h.
+          subst (λ (t : List ℕ). Stands (fed g t) p m l) (sym (no-bytes bytes 0) ∙ ap (part bytes 0) (sym e)) h;
+    }
+
+-- it empties the output, to stand at q, and goes on to r
+pub follows-more : {start p q r : Progress} {bytes m₀ l₀ m l o m′ l′ o′ : List ℕ} → Follows start p (part bytes 0 (p .taken)) m₀ l₀ m l
+    → q .rank ≡ p .rank → q .kept ≡ p .kept → q .taken ≡ p .taken → q .length ≡ 0 → Advance q r bytes m l o m′ l′ o′
+    → Follows start r (part bytes 0 (r .taken)) m₀ l₀ m′ l′
+follows-more {start} {p} {q} {r} {bytes} {m₀} {l₀} {m} {l} {o} {m′} {l′} {o′} h er ek et el a =
+    let s : List ℕ = part bytes 0 (p .taken) in
+    let t : List ℕ = part bytes (q .taken) (r .taken) in
+    record {
+      session = λ g at.
+          let here : Stands (fed g s) p m l = h .session g at in
+          let clear : Stands (fed g s) q m l =
+          record {
+            rank-is = er ∙ here .rank-is;
+            memory-is = here .memory-is;
+            begun-is = ap (λ (k : ℕ). take k l) ek ∙ here .begun-is;
+          } in
+          let same : s ++ t ≡ part bytes 0 (r .taken) =
+          ap (λ (k : ℕ). s ++ part bytes k (r .taken)) et
+          ∙ sym (part-add bytes 0 (p .taken) (r .taken) zero-le (omega (arith, a .taken-least))) in
+          subst (λ (x : Session). Stands x r m′ l′) (sym (fed-append g s t) ∙ ap (fed g) same)
+          (advance-follows el a .session (fed g s) clear);
+    }
+
+-- it has taken up all of the part. Before, it has set to 0 how much it has taken up of it, to stand at q.
+pub follows-all : {start q p : Progress} {bytes m₀ l₀ m l : List ℕ} → q .rank ≡ start .rank → q .kept ≡ start .kept
+    → Follows q p (part bytes 0 (p .taken)) m₀ l₀ m l → length bytes ≤ p .taken → Follows start p bytes m₀ l₀ m l
+follows-all {start} {q} {p} {bytes} {m₀} {l₀} {m} {l} er ek h e =
+    record {
+      session = λ g at.
+          subst (λ (s : List ℕ). Stands (fed g s) p m l) (part-whole bytes (p .taken) e)
+          (h .session g
+          (record {
+            rank-is = er ∙ at .rank-is;
+            memory-is = at .memory-is;
+            begun-is = ap (λ (k : ℕ). take k l₀) ek ∙ at .begun-is;
+          }));
     }
 
 -- ---- the end of the input

@@ -43,6 +43,18 @@ finishedBy (b ∷ bs) g = ends g
 unfoldable pub finished : Session → Session
 finished g = finishedBy (g .begun) g
 
+-- the same session with nothing printed
+unfoldable pub unprinted : Session → Session
+unprinted g = record { rank = g .rank; memory = g .memory; begun = g .begun; printed = [] }
+
+-- a record and a memory, nothing begun and nothing printed
+unfoldable pub start : Rank → List ℕ → Session
+start r m = record { rank = r; memory = m; begun = []; printed = [] }
+
+-- all that is printed for a whole input
+unfoldable pub outputOf : Rank → List ℕ → List ℕ → List ℕ
+outputOf r m s = finished (fed (start r m) s) .printed
+
 -- a run stands at a session: it has the record and the memory, the first 41 bytes of the line that has begun, and the text in the output,
 -- whose other bytes are as before
 pub record At (g : Session) (before : List ℕ) (p : Progress) (memory line out : List ℕ) : Type 0 where
@@ -50,6 +62,17 @@ pub record At (g : Session) (before : List ℕ) (p : Progress) (memory line out 
   pub memory-is : memory ≡ g .memory
   pub begun-is : take (p .kept) line ≡ take 41 (g .begun)
   pub printed-is : Laid before 0 (g .printed) out (p .length)
+
+-- the same without the output: a run stands at a session, whatever was printed
+pub record Stands (g : Session) (p : Progress) (memory line : List ℕ) : Type 0 where
+  pub rank-is : p .rank ≡ g .rank
+  pub memory-is : memory ≡ g .memory
+  pub begun-is : take (p .kept) line ≡ take 41 (g .begun)
+
+-- a run goes from p to r over bytes s: whatever session it stood at, it stands at that one fed with s. m and l are the lent memory and the
+-- line kept; m′ and l′ are these after it.
+pub record Follows (p r : Progress) (s m l m′ l′ : List ℕ) : Type 0 where
+  pub session : (g : Session) → Stands g p m l → Stands (fed g s) r m′ l′
 
 -- the bytes from place a to before place e
 unfoldable pub part : List ℕ → ℕ → ℕ → List ℕ

@@ -1,14 +1,18 @@
--- Laws of how large the numbers are that are printed: a refusal has at most two decimal digits, the passes one, and a mask three
--- hexadecimal digits, so that `decimalText` and `hexText` print them whole.
+-- Laws of how large the numbers are that are printed: a refusal has at most two decimal digits, the passes one, a mask three hexadecimal
+-- digits and the first word sixteen, so that `decimalText` and `hexText` print them whole.
 -- Assumes nothing.
 use mathlib.Core.Bool.{Bool, true, false, cond}
 use mathlib.Core.List.{List, [], _∷_, _++_}
-use Prim.Native.Nat.{ℕ, zero, suc, _+_, _<_}
+use Prim.Native.Nat.{ℕ, zero, suc, _+_, _^_, _≤_, _<_}
 use native.Mathlib.Omega.{arith}
 use lib.Dec.{eqb, ltb, lit<}
+use lib.ListN.{length, take}
+use lib.Seq.{length-take-le}
 use Rattle.code.specs.Lists.{Every}
 use Rattle.line.specs.Chips.{bit, mask, count, xorAll}
 use Rattle.line.specs.ChipLaws.{mask-lt}
+use Rattle.line.specs.Cells.{bytesFrom}
+use Rattle.line.specs.ByteLaws.{Bytes, number-lt, bytes-bytesFrom}
 use Rattle.line.specs.Visit.{passOne, passThree, isCandidate, isFlagged, isCollision, flaggedChips, mustCancel, outcomeBy, outcomeOf, passesOf, reportOf, refusalOf}
 use Rattle.line.specs.declared.Outcome.the-variants.{Answered, Refused}
 use Rattle.rank.specs.Refusals.{lineOut, bufferOut, chipOut, patternOut, notReady, memoryDiffers, registerDiffers, refusedIf, firstOf, stateRefusals, bufferRefusal, faultRefusal}
@@ -16,6 +20,7 @@ use Rattle.rank.specs.Lines.{lineAt}
 use Rattle.rank.specs.Calls.{visitOf, writeBy, writeOf, readResult, readBy, readOf, faultBy, faultOf}
 use Rattle.rank.specs.declared.Rank.{Rank}
 use Rattle.rank.specs.declared.ReadResult.{ReadResult}
+use Rattle.script.specs.Answers.{firstWord}
 
 -- ---- refusals
 
@@ -108,3 +113,8 @@ read-by (suc n) r m l b h = record { refusal = h; passes = lit< tt; flagged = li
 pub read-small : (r : Rank) (m : List ℕ) (l : ℕ) (b : List ℕ) → Small (readOf r m l b .result)
 unfolding readOf
 read-small r m l b = read-by (bufferRefusal r m l b) r m l b (buffer-lt r m l b)
+
+-- the first word of a line's bytes has at most sixteen digits
+pub word-small : (b : List ℕ) → Bytes b → 8 ≤ length b → firstWord b < 2 ^ 64
+unfolding firstWord bytesFrom
+word-small b bytes size = number-lt (take 8 b) 8 (bytes-bytesFrom 8 0 b bytes) (length-take-le 8 b size)

@@ -1,5 +1,5 @@
 -- Document 01, "Bench examples", program `bench`: what is printed for a line.
--- Definitions alone; what holds of them is in `TextLaws`.
+-- Definitions alone; what holds of them is in `TextLaws`, `ReadBackLaws` and `SmallLaws`.
 use Prim.Native.Nat.{ℕ, zero, suc, _+_, _/_, _%_, _^_}
 use mathlib.Core.Bool.{cond}
 use mathlib.Core.List.{List, [], _∷_, _++_}

@@ -8,8 +8,8 @@ ghost use Rattle.script.specs.Texts.{unknownText, Laid};
 ghost use Rattle.script.specs.Answers.{Replies, callReply, readReply, replyTo};
 use rank::Rank;
 
-pub mod events;
-pub mod fields;
+mod events;
+mod fields;
 mod numbers;
 pub mod sessions;
 mod texts;

@@ -56,16 +56,17 @@ fn numeral(field: &[u8], base: u64) -> Number
 fn digit_of(byte: u8) -> u64
     ensures { λ r. ⌜ r ≡ digitOf byte ⌝ }
 {
-    if byte < 48 {
+    if byte < b'0' {
         return 16;
     }
-    if byte <= 57 {
-        return (byte - 48) as u64;
+    if byte <= b'9' {
+        return (byte - b'0') as u64;
     }
-    if byte < 97 {
+    if byte < b'a' {
         return 16;
     }
-    if byte <= 102 {
+    if byte <= b'f' {
+        // 61h is 10.
         return (byte - 87) as u64;
     }
     16

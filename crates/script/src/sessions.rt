@@ -20,7 +20,8 @@ pub struct Progress {
     pub length: usize,
 }
 
-// Takes up the rest of a part of the input, as far as the output has room for another answer.
+// Takes up bytes of a part of the input, at least one where one is left, and answers the lines that end in them. How many it takes is left
+// open, and so are the bytes of `line` behind the kept ones.
 pub fn take_up(
     start: Progress,
     memory: &mut [u8],

@@ -4,7 +4,7 @@ ghost use Prim.Native.Nat.{_%_, _<_};
 ghost use lib.ListN.{length};
 ghost use Rattle.script.specs.Answers.{patternOf, firstWord};
 
-// The nine bytes of a word and its check.
+// The nine bytes of a word and its check. `six` to `zero` are named by the byte that is lowest in each.
 pub fn pattern(word: u64, check: u8) -> [u8; 9]
     ensures { λ r. ⌜ r ≡ patternOf word check ⌝ }
 {

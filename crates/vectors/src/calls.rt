@@ -147,6 +147,22 @@ fn grown(word: u64) -> u64 {
     std::num::wrapping_add_u64(word, STEP)
 }
 
+// Whether renew sets both copies of chip i's catch-word, 0 or FFFFFFFFFFFFFFFFh, in the record of a rank of 1 or of 65,536 lines.
+pub fn renews(i: u64) -> bool {
+    let lines = if i / 9 % 2 == 0 { 1 } else { 65536 };
+    let catch_word = if i / 18 % 2 == 0 {
+        0
+    } else {
+        0xffff_ffff_ffff_ffff
+    };
+    renew_gives(
+        results::record(lines, CATCH_WORDS, 5),
+        (i % 9) as u32,
+        catch_word,
+        results::record(lines, replaced(CATCH_WORDS, i, catch_word), 5),
+    )
+}
+
 // Whether all nine catch-words move, eight of them with a carry out.
 pub fn all_move() -> bool {
     let words = replaced([0xffff_ffff_ffff_ffff; 9], 8, 0);
@@ -166,6 +182,46 @@ fn collides(words: [u64; 9], met: [u64; 9], moved: [u64; 9], mask: u32) -> bool 
         line_bytes(words),
     )
         && read_leaves(after, 1, [0, 1, 0, 0], after, line_bytes(words))
+}
+
+// Whether a read moves chip i's catch-word and repairs the chips after it, where chip i is a collision and one or two have a bit inverted.
+pub fn moves_and_repairs(i: u64) -> bool {
+    let line = laid(words_of(i));
+    let one = inverted(line, i % 9 * 72 + 79);
+    let two = inverted(one, i % 9 * 72 + 150);
+    let first = chip_bit(i % 9 + 1);
+    repairs_beside(i, one, [0, 2, first, chip_bit(i)], 6)
+        && repairs_beside(i, two, [0, 3, first | chip_bit(i % 9 + 2), chip_bit(i)], 7)
+}
+
+fn repairs_beside(i: u64, damaged: [u8; 81], numbers: [u32; 4], repairs: u32) -> bool {
+    let words = words_of(i);
+    let k = (i % 9) as usize;
+    let met = replaced(CATCH_WORDS, i, words[k]);
+    let moved = replaced(CATCH_WORDS, i, grown(words[k]));
+    read_leaves(
+        holding(met, 5, only(1, damaged)),
+        1,
+        numbers,
+        holding(moved, repairs, only(1, laid(words))),
+        line_bytes(words),
+    )
+}
+
+// Whether a read repairs three chips: bit i of the line's 648 is inverted, and so are those 217 and 434 further on, in other chips.
+pub fn repairs_three(i: u64) -> bool {
+    let words = words_of(i);
+    let second = i % 648 + 217;
+    let third = i % 648 + 434;
+    let damaged = inverted(inverted(inverted(laid(words), i), second), third);
+    let flagged = chip_bit(i / 72) | chip_bit(second / 72) | chip_bit(third / 72);
+    read_leaves(
+        holding(CATCH_WORDS, 5, only(i, damaged)),
+        (i % 4) as u32,
+        [0, 3, flagged, 0],
+        holding(CATCH_WORDS, 8, only(i, laid(words))),
+        line_bytes(words),
+    )
 }
 
 // Whether the repair total grows by two where two chips are mended, by a read and by a patrol, and stays at its most.
@@ -207,6 +263,20 @@ pub fn patrols(i: u64) -> bool {
         && patrol_repairs(damaged, 0, 3, [0, 3, 1, 1], first)
         && patrol_repairs(damaged, 2, 2, [0, 2, 1, 2], with_line(damaged, 3, line))
         && patrol_repairs(damaged, 2, 1, [0, 1, 1, 0], damaged)
+}
+
+// Whether a patrol counts line 1, refused 20, and line 2, refused 21, and leaves both as they are, and moves no catch-word where both
+// have a collision. Line 3 has two chips damaged.
+pub fn patrols_refused(i: u64) -> bool {
+    let words = words_of(i);
+    let line = laid(words);
+    let parity = only(1, laid(other_word(words, i)));
+    let rest = with_line(parity, 2, beyond_repair(line, i));
+    let damaged = with_line(rest, 3, two_inverted(line));
+    let k = ((i % 9 + 3) % 9) as usize;
+    let met = holding(replaced(CATCH_WORDS, i % 9 + 3, words[k]), 5, damaged);
+    patrol_repairs(damaged, 0, 4, [0, 4, 2, 2], with_line(rest, 3, line))
+        && patrol_leaves(met, 1, 2, [0, 2, 2, 0], met)
 }
 
 // Whether the repair total grows by the words rewritten, too.

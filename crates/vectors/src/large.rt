@@ -29,7 +29,7 @@ fn goes_on(memory: &mut [u8], trial: u64) -> bool {
     patrols(memory, trial)
 }
 
-// Whether the last line is written, and read back.
+// Whether the last line is written, and read back, and after each the other lines are clear.
 fn last_line(memory: &mut [u8]) -> bool {
     let record = results::record(4097, CATCH_WORDS, 0);
     let words = layout::words_of(0);
@@ -37,14 +37,17 @@ fn last_line(memory: &mut [u8]) -> bool {
     let called = rank::rank_write(record, memory, 4096, &bytes);
     results::called_is(called, 0, record)
         && last_is(memory, layout::laid(words))
-        && read_back(memory, bytes)
+        && read_back(memory, words)
 }
 
-fn read_back(memory: &mut [u8], bytes: [u8; 64]) -> bool {
+fn read_back(memory: &mut [u8], words: [u64; 9]) -> bool {
     let record = results::record(4097, CATCH_WORDS, 0);
+    let bytes = layout::line_bytes(words);
     let mut buffer = [0u8; 64];
     let read = rank::rank_read(record, memory, 4096, &mut buffer);
-    results::read_is(read, [0, 1, 0, 0], record) && check::same(&buffer, &bytes)
+    results::read_is(read, [0, 1, 0, 0], record)
+        && check::same(&buffer, &bytes)
+        && last_is(memory, layout::laid(words))
 }
 
 // Whether a line number that is not below 4,097 is refused 1, and the memory stays: three numbers for each of four calls.

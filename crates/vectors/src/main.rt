@@ -50,9 +50,15 @@ enum Trial {
     AllMoved,
     NoneMoved,
     PatrolMoved,
-    // The repair total, and patrols over damaged lines.
+    // Catch-words 0 and FFFFFFFFFFFFFFFFh, renewed in records of the fewest and the most lines.
+    Renewed,
+    // Reads that repair: beside a collision, and three chips at once.
+    MovedRepaired,
+    ThreeRepaired,
+    // The repair total, and patrols over damaged lines: with one that is refused, and with two, one for each reason.
     Repairs,
     PatrolDamaged,
+    PatrolRefused,
 }
 
 fn main() {
@@ -62,6 +68,7 @@ fn main() {
     report_large();
     report_calls();
     report_records();
+    report_repairs();
 }
 
 fn report_code() {
@@ -120,7 +127,7 @@ fn report_refusals() {
         1799,
     );
     report(
-        b"patrols refused 12, 13, 14 or 1",
+        b"patrols refused 12, 13, 14 or 1, and one accepted with budget 0",
         Trial::Refused(Call::Patrol),
         1199,
     );
@@ -175,10 +182,33 @@ fn report_records() {
         Trial::PatrolMoved,
         9,
     );
+    report(
+        b"catch-words of 0 and of 64 bits set, renewed with 1 and 65,536 lines",
+        Trial::Renewed,
+        36,
+    );
+}
+
+fn report_repairs() {
+    report(
+        b"one and two chips repaired beside a collision, its catch-word moved",
+        Trial::MovedRepaired,
+        9,
+    );
+    report(
+        b"one-bit damages of three chips, read and repaired",
+        Trial::ThreeRepaired,
+        648,
+    );
     report(b"repair totals", Trial::Repairs, 4);
     report(
         b"patrols over damaged lines, one beyond repair",
         Trial::PatrolDamaged,
+        9,
+    );
+    report(
+        b"patrols over lines refused 20 and 21",
+        Trial::PatrolRefused,
         9,
     );
 }
@@ -228,8 +258,12 @@ fn succeeds(trial: Trial, i: u64) -> bool {
         Trial::AllMoved => calls::all_move(),
         Trial::NoneMoved => calls::refused_moves_none(i),
         Trial::PatrolMoved => calls::patrol_moves(i),
+        Trial::Renewed => calls::renews(i),
+        Trial::MovedRepaired => calls::moves_and_repairs(i),
+        Trial::ThreeRepaired => calls::repairs_three(i),
         Trial::Repairs => calls::counts_repairs(i),
         Trial::PatrolDamaged => calls::patrols(i),
+        Trial::PatrolRefused => calls::patrols_refused(i),
     }
 }
 

@@ -81,7 +81,8 @@ fn of_read(i: u64) -> bool {
         && buffer_stays(&buffer)
 }
 
-// A patrol's budget is 1, and in the later half of the trials 0, with which it changes nothing where it is not refused.
+// A patrol's budget is 1, and in the later half of the trials 0. Trial 600 sets no condition: with budget 0 it is accepted, and nothing
+// changes.
 fn of_patrol(i: u64) -> bool {
     let record = record_of(i);
     let length = 242 + ((i / 4 + 1) % 3) as usize;
