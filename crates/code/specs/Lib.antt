@@ -6,6 +6,7 @@ pub mod Fold
 pub mod Lanes
 pub mod TestLaws
 pub mod XorLaws
+pub mod AdditiveLaws
 pub mod RemainderLaws
 pub mod CodeLaws
 pub mod MendLaws

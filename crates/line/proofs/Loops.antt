@@ -9,8 +9,8 @@ use native.Mathlib.Omega.{arith}
 use lib.Bits.{bitOr, bitXor, or-shifted-r}
 use lib.ListN.{length, getD, set, take, drop}
 use lib.Seq.{sets, length-sets, take-suc, getD-set-other, length-take-le}
-use Rattle.line.specs.Chips.{joined, xorAll, bit, mask}
-use Rattle.line.specs.ChipLaws.{mask-lt}
+use Rattle.line.specs.Chips.{joined, xorAll, bit, mask, inMask}
+use Rattle.line.specs.ChipLaws.{mask-lt, in-mask}
 use Rattle.line.specs.Cells.{bytesFrom, xorBytes}
 use Rattle.line.specs.ByteLaws.{length-bytesFrom, bytesFrom-suc, length-xor, xor-snoc, sets-append}
 use Rattle.line.specs.CellLaws.{joined-store, joined-skip, joined-over}
@@ -88,6 +88,10 @@ mask-more p {n} {x} {k} h l e = upto-more h l (ap₂ bitOr (h .done) e ∙ or-sh
 
 pub none-yet : (f : ℕ → ℕ) (n : ℕ) → f 0 ≡ 0 → Upto f n 0 0
 none-yet f n e = record { within = zero-le; done = sym e }
+
+-- a chip is in a mask that was made by a test where it passes the test
+pub member-is : (p : ℕ → Bool) {n k : ℕ} {b : Bool} → n ≡ mask p 9 → k < 9 → b ≡ inMask n k → b ≡ p k
+member-is p {n} {k} e l q = q ∙ ap (λ (x : ℕ). inMask x k) e ∙ in-mask p 9 k l
 
 -- ---- a pattern xored into bytes, byte by byte
 

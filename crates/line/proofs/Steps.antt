@@ -12,12 +12,13 @@ use borrow.Author.Tests.{eqb-true, eqb-false, lt-ltb}
 use Rattle.code.specs.Code.{mendedWord}
 use Rattle.code.specs.XorLaws.{xor-cancel-r}
 use Rattle.line.specs.Chips.{ofChips, joined, xorAll, bit, count, mask, inMask}
-use Rattle.line.specs.ChipLaws.{and-first, getD-ofChips, ofChips-ext, joined-ext, xorAll-ext, xorAll-but, count-none, count-le, in-mask, ones-mask, and-masks, rest-mask, mask-ext, mask-zero, mask-count, count-mask}
-use Rattle.line.specs.Cells.{wordAt, cellAt, chipAt, codeword}
-use Rattle.line.specs.ByteLaws.{Bytes}
+use Rattle.line.specs.ChipLaws.{and-first, getD-ofChips, joined-ext, xorAll-ext, xorAll-but, count-none, count-le, ones-mask, and-masks, rest-mask, mask-ext, mask-zero, mask-count, count-mask}
+use Rattle.line.specs.Cells.{cellAt, chipAt, codeword}
 use Rattle.line.specs.CellLaws.{chips-line}
 use Rattle.line.specs.Visit.{catchWord, passOne, passThree, isCandidate, follows, isFlagged, isCollision, flaggedChips, mustCancel, xorOthers, outcomeBy, outcomeOf, wordBy, wordOf, writtenBack, bytesBy, bytesAfter, passesOf, reportOf}
-use Rattle.line.specs.VisitLaws.{flagged-is, sent-held, third-word}
+use Rattle.line.specs.VisitLaws.{flagged-mask, third-word}
+use Rattle.line.specs.Scan.{unsound}
+use Rattle.line.proofs.Loops.{member-is}
 use Rattle.line.specs.declared.Report.{Report}
 use Rattle.line.specs.declared.Outcome.{Outcome}
 use Rattle.line.specs.declared.Outcome.the-variants.{Answered, Refused}
@@ -33,6 +34,10 @@ other : (a b : Bool) → (a && not (a && b)) ≡ (a && not b)
 other true b = refl
 other false b = refl
 
+twice : (a b : Bool) → (a && (a && b)) ≡ (a && b)
+twice true b = refl
+twice false b = refl
+
 module _ (m cws : List ℕ) where
   -- the candidates that are not flagged are the collisions
   pub collisions-rest : bitAnd (mask (isCandidate m cws) 9) (bitXor (mask (isFlagged m cws) 9) 511) ≡ mask (isCollision m cws) 9
@@ -41,6 +46,14 @@ module _ (m cws : List ℕ) where
       ap (bitAnd (mask (isCandidate m cws) 9)) (others (isFlagged m cws))
       ∙ and-masks (isCandidate m cws) (λ k. not (isFlagged m cws k)) 9
       ∙ mask-ext _ (isCollision m cws) 9 (λ k l. other (isCandidate m cws k) (follows m cws k))
+
+  -- the candidates that hold no codeword are the flagged chips
+  pub flagged-bad : bitAnd (mask (isCandidate m cws) 9) (mask (unsound m) 9) ≡ mask (isFlagged m cws) 9
+  unfolding isFlagged
+  flagged-bad =
+      ap (bitAnd (mask (isCandidate m cws) 9)) (sym (flagged-mask m cws))
+      ∙ and-masks (isCandidate m cws) (isFlagged m cws) 9
+      ∙ mask-ext _ (isFlagged m cws) 9 (λ k l. twice (isCandidate m cws k) (follows m cws k))
 
   -- none flagged: pass two was made if there were candidates
   pub few-passes : {c n : ℕ} → flaggedChips m cws ≡ 0 → c ≡ mask (isCandidate m cws) 9 → n ≡ cond (eqb c 0) 1 2 → n ≡ passesOf m cws
@@ -66,18 +79,25 @@ module _ (m cws : List ℕ) where
 
 -- ---- steps 3 to 5
 
--- a chip that is not flagged sent its word in pass one
-unflagged : (m cws : List ℕ) → Bytes m → (k : ℕ) → isFlagged m cws k ≡ false → passOne m cws k ≡ wordAt m k
-unflagged m cws bytes k e = sent-held m cws k bytes (sym (flagged-is m cws k) ∙ e)
+-- the line with words laid in its flagged chips
+abbrev pub laid : List ℕ → List ℕ → List ℕ → List ℕ
+laid m cws ws = joined (λ k. cond (isFlagged m cws k) (codeword (getD ws k 0)) (chipAt m k)) 9
 
--- an outcome, a number of passes and nine words are those of steps 3 to 5
+-- an outcome, a number of passes and the flagged chips' words are those of steps 3 to 5
 abbrev pub Found : List ℕ → List ℕ → Outcome → ℕ → List ℕ → Type 0
-Found m cws o n ws = (o ≡ outcomeOf m cws) × ((n ≡ passesOf m cws) × (ws ≡ ofChips (wordOf m cws) 9))
+Found m cws o n ws = (o ≡ outcomeOf m cws) × ((n ≡ passesOf m cws) × (laid m cws ws ≡ writtenBack m cws))
+
+-- words that are the flagged chips' make the line written back
+laid-words : (m cws ws : List ℕ) → ((k : ℕ) → k < 9 → isFlagged m cws k ≡ true → getD ws k 0 ≡ wordOf m cws k) → laid m cws ws ≡ writtenBack m cws
+unfolding writtenBack
+laid-words m cws ws h = joined-ext _ _ 9 (λ k l. pick k l (isFlagged m cws k) refl)
+  where
+    pick : (k : ℕ) → k < 9 → (b : Bool) → isFlagged m cws k ≡ b
+        → cond b (codeword (getD ws k 0)) (chipAt m k) ≡ cond b (codeword (wordOf m cws k)) (chipAt m k)
+    pick k l true t = ap codeword (h k l t)
+    pick k l false t = refl
 
 module _ (m cws : List ℕ) (f p : ℕ) (ef : f ≡ mask (isFlagged m cws) 9) (ep : p ≡ xorAll (passOne m cws) 9) where
-  flags : (k : ℕ) → k < 9 → inMask f k ≡ isFlagged m cws k
-  flags k l = ap (λ (x : ℕ). inMask x k) ef ∙ in-mask (isFlagged m cws) 9 k l
-
   chips : ones f ≡ flaggedChips m cws
   unfolding flaggedChips
   chips = ap ones ef ∙ ones-mask (isFlagged m cws) 9
@@ -91,15 +111,13 @@ module _ (m cws : List ℕ) (f p : ℕ) (ef : f ≡ mask (isFlagged m cws) 9) (e
     unfolding outcomeOf outcomeBy mustCancel
     none-outcome q = rw (zero-chips, ← ep) q
 
-    none-words : Bytes m → {ws : List ℕ} → ws ≡ ofChips (wordAt m) 9 → ws ≡ ofChips (wordOf m cws) 9
-    unfolding wordOf wordBy flaggedChips
-    none-words bytes q =
-        q ∙ ofChips-ext (wordAt m) (wordOf m cws) 9
-        (λ k l. sym (ap (λ (n : ℕ). wordBy n m cws k) zero-chips ∙ unflagged m cws bytes k (count-none (isFlagged m cws) 9 zero-chips k l)))
+    none-words : (ws : List ℕ) → laid m cws ws ≡ writtenBack m cws
+    unfolding flaggedChips
+    none-words ws = laid-words m cws ws (λ k l t. absurd (omega (arith, ap bit (sym t ∙ count-none (isFlagged m cws) 9 zero-chips k l))))
 
-    pub none-found : Bytes m → {c n : ℕ} {o : Outcome} {ws : List ℕ} → c ≡ mask (isCandidate m cws) 9
-        → o ≡ cond (eqb p 0) Answered (Refused 20) → n ≡ cond (eqb c 0) 1 2 → ws ≡ ofChips (wordAt m) 9 → Found m cws o n ws
-    none-found bytes ec eo en ew = (none-outcome eo, (few-passes m cws zero-chips ec en, none-words bytes ew))
+    pub none-found : {c n : ℕ} {o : Outcome} → c ≡ mask (isCandidate m cws) 9
+        → o ≡ cond (eqb p 0) Answered (Refused 20) → n ≡ cond (eqb c 0) 1 2 → (ws : List ℕ) → Found m cws o n ws
+    none-found ec eo en ws = (none-outcome eo, (few-passes m cws zero-chips ec en, none-words ws))
 
   -- one flagged
   module _ (e : ones f ≡ 1) where
@@ -117,19 +135,18 @@ module _ (m cws : List ℕ) (f p : ℕ) (ef : f ≡ mask (isFlagged m cws) 9) (e
         let sent : passOne m cws k ≡ catchWord cws k = eqb-true _ _ (and-first _ _ t) in
         ap₂ bitXor (ep ∙ xorAll-but (passOne m cws) 9 k l) (sym sent) ∙ xor-cancel-r _ (passOne m cws k)
 
-    one-words : Bytes m → {ws : List ℕ} → ws ≡ ofChips (λ k. cond (inMask f k) (bitXor p (catchWord cws k)) (wordAt m k)) 9
-        → ws ≡ ofChips (wordOf m cws) 9
+    one-words : {ws : List ℕ} → ws ≡ ofChips (λ k. bitXor p (catchWord cws k)) 9 → laid m cws ws ≡ writtenBack m cws
     unfolding wordOf wordBy
-    one-words bytes q =
-        q ∙ ofChips-ext _ (wordOf m cws) 9 (λ k l. ap (λ (b : Bool). cond b (bitXor p (catchWord cws k)) (wordAt m k)) (flags k l) ∙ pick k l (isFlagged m cws k) refl ∙ sym (ap (λ (n : ℕ). wordBy n m cws k) one-chip))
-      where
-        pick : (k : ℕ) → k < 9 → (b : Bool) → isFlagged m cws k ≡ b
-            → cond b (bitXor p (catchWord cws k)) (wordAt m k) ≡ cond (isFlagged m cws k) (xorOthers (passOne m cws) k) (passOne m cws k)
-        pick k l true t = rw t (taken-off k l t)
-        pick k l false t = rw t (sym (unflagged m cws bytes k t))
+    one-words {ws} q =
+        laid-words m cws ws
+        (λ k l t.
+        ap (λ (s : List ℕ). getD s k 0) q
+        ∙ getD-ofChips (λ j. bitXor p (catchWord cws j)) 9 k l
+        ∙ taken-off k l t
+        ∙ sym (ap (λ (n : ℕ). wordBy n m cws k) one-chip ∙ ap (λ (b : Bool). cond b (xorOthers (passOne m cws) k) (passOne m cws k)) t))
 
-    pub one-found : Bytes m → {ws : List ℕ} → ws ≡ ofChips (λ k. cond (inMask f k) (bitXor p (catchWord cws k)) (wordAt m k)) 9 → Found m cws Answered 2 ws
-    one-found bytes ew = (one-outcome, (more-passes m cws 0 one-chip, one-words bytes ew))
+    pub one-found : {ws : List ℕ} → ws ≡ ofChips (λ k. bitXor p (catchWord cws k)) 9 → Found m cws Answered 2 ws
+    one-found ew = (one-outcome, (more-passes m cws 0 one-chip, one-words ew))
 
   -- two or more flagged
   module _ (n0 : ones f ≡ 0 → ⊥) (n1 : ones f ≡ 1 → ⊥) where
@@ -146,10 +163,15 @@ module _ (m cws : List ℕ) (f p : ℕ) (ef : f ≡ mask (isFlagged m cws) 9) (e
         several (λ n. flaggedChips m cws ≡ n → 3 ≡ passesOf m cws)
         (λ n e. sym (ap (λ (b : Bool). 2 + bit b) (lt-ltb 1 (suc (suc n)) (omega arith))) ∙ more-passes m cws (suc n) e) refl
 
-    several-words : {ws : List ℕ} → ws ≡ ofChips (λ k. mendedWord (cellAt m k)) 9 → ws ≡ ofChips (wordOf m cws) 9
+    several-words : {ws : List ℕ} → ws ≡ ofChips (λ k. mendedWord (cellAt m k)) 9 → laid m cws ws ≡ writtenBack m cws
     unfolding wordOf wordBy
-    several-words q =
-        q ∙ several (λ n. ofChips (λ k. mendedWord (cellAt m k)) 9 ≡ ofChips (wordBy n m cws) 9) (λ n. ofChips-ext _ _ 9 (λ k l. sym (third-word m cws k)))
+    several-words {ws} q =
+        laid-words m cws ws
+        (λ k l t.
+        ap (λ (s : List ℕ). getD s k 0) q
+        ∙ getD-ofChips (λ j. mendedWord (cellAt m j)) 9 k l
+        ∙ sym (third-word m cws k)
+        ∙ several (λ n. passThree m cws k ≡ wordBy n m cws k) (λ n. refl))
 
     several-outcome : {ws : List ℕ} {x : ℕ} {o : Outcome} → ws ≡ ofChips (λ k. mendedWord (cellAt m k)) 9 → x ≡ xorAll (λ k. getD ws k 0) 9
         → o ≡ cond (eqb x 0) Answered (Refused 21) → o ≡ outcomeOf m cws
@@ -214,10 +236,10 @@ module _ (m cws : List ℕ) where
     refused-bytes e = rw (sym eo ∙ e)
 
     -- an answered line is written back
-    pub answered-bytes : o ≡ Answered → {ws t : List ℕ} → ws ≡ ofChips (wordOf m cws) 9
+    pub answered-bytes : o ≡ Answered → (ws : List ℕ) → {t : List ℕ} → laid m cws ws ≡ writtenBack m cws
         → t ≡ joined (λ k. cond (inMask f k) (codeword (getD ws k 0)) (chipAt m k)) 9 → t ≡ bytesAfter m cws
-    unfolding bytesAfter bytesBy writtenBack
-    answered-bytes e {ws} {t} q r =
-        r ∙ joined-ext _ (λ k. cond (isFlagged m cws k) (codeword (wordOf m cws k)) (chipAt m k)) 9
-        (λ k l. ap₂ (λ (b : Bool) (w : ℕ). cond b (codeword w) (chipAt m k)) (ap (λ (x : ℕ). inMask x k) ef ∙ in-mask (isFlagged m cws) 9 k l) (ap (λ (s : List ℕ). getD s k 0) q ∙ getD-ofChips (wordOf m cws) 9 k l))
+    unfolding bytesAfter bytesBy
+    answered-bytes e ws {t} q r =
+        r ∙ joined-ext _ _ 9 (λ k l. ap (λ (b : Bool). cond b (codeword (getD ws k 0)) (chipAt m k)) (member-is (isFlagged m cws) ef l refl))
+        ∙ q
         ∙ ap (λ (u : Outcome). bytesBy u m cws) (sym e ∙ eo)

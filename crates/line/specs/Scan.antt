@@ -1,11 +1,10 @@
--- A clean line: document 01, "A visit to a line", where step 1 finds no candidate and step 3 answers. After it, what the scan looks at to tell.
+-- A clean line: document 01, "A visit to a line", where step 1 finds no candidate and step 3 answers. After it, what the scan and the passes look at.
 -- Definitions alone; what holds of them is in `ScanLaws`.
 use mathlib.Core.Bool.{Bool, not, _&&_}
 use mathlib.Core.List.{List}
-use Prim.Native.Nat.{ℕ, _+_}
+use Prim.Native.Nat.{ℕ}
 use lib.Dec.{eqb}
 use Rattle.code.specs.Code.{isCodeword}
-use Rattle.code.specs.Lanes.{lanes}
 use Rattle.line.specs.Chips.{xorAll, mask}
 use Rattle.line.specs.Cells.{wordAt, cellAt}
 use Rattle.line.specs.Visit.{catchWord, passOne, isCandidate}
@@ -21,7 +20,3 @@ unsound m k = not (isCodeword (cellAt m k))
 -- chip k's word is its catch-word
 abbrev pub meets : List ℕ → List ℕ → ℕ → Bool
 meets m cws k = eqb (wordAt m k) (catchWord cws k)
-
--- f of the four chips from chip k on, each in its lane
-unfoldable pub fourFrom : (ℕ → ℕ) → ℕ → ℕ
-fourFrom f k = lanes (f k) (f (k + 1)) (f (k + 2)) (f (k + 3))

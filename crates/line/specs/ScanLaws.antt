@@ -4,16 +4,14 @@
 use mathlib.Core.Path.{_≡_, refl, sym, ap, ap₂, _∙_}
 use mathlib.Core.Bool.{Bool, true, false, not, _&&_, _||_}
 use mathlib.Core.List.{List}
-use Prim.Native.Nat.{ℕ, zero, suc, _+_, _*_, _^_, _<_}
-use native.Mathlib.Numerals.{towards-suc}
+use Prim.Native.Nat.{ℕ, suc, _+_, _*_, _<_}
 use native.Mathlib.Omega.{arith}
-use lib.Bits.{bitXor}
+use lib.Bits.{bitXor, xor-self}
 use lib.Dec.{eqb}
 use borrow.Author.Tests.{eq-eqb, eqb-true, not-false}
 use Rattle.code.specs.Code.{cell, syndromeOf, isCodeword, checkOf}
-use Rattle.code.specs.CodeLaws.{codeword-syndrome, syndrome-codeword, check-lt, check-makes, check-only, check-xor, check-zero}
+use Rattle.code.specs.CodeLaws.{syndrome-of, codeword-syndrome, syndrome-codeword, check-lt, check-makes, check-only, check-zero}
 use Rattle.code.specs.Lanes.{lanes}
-use Rattle.code.specs.LaneLaws.{lanes-equal}
 use Rattle.code.specs.XorLaws.{xor-zero-eq}
 use Rattle.line.specs.Chips.{xorAll, count, mask}
 use Rattle.line.specs.Cells.{wordAt, checkAt, cellAt}
@@ -21,7 +19,9 @@ use Rattle.line.specs.ChipLaws.{and-first, and-second, xorAll-ext, count
 use Rattle.line.specs.ByteLaws.{Bytes}
 use Rattle.line.specs.Visit.{catchWord, passOne, isCandidate}
 use Rattle.line.specs.VisitLaws.{matches, sent-held, candidate-is}
-use Rattle.line.specs.Scan.{isClean, unsound, meets, fourFrom}
+use Rattle.line.specs.Checks.{everyOther}
+use Rattle.line.specs.CheckLaws.{other-equal, checks-xor}
+use Rattle.line.specs.Scan.{isClean, unsound, meets}
 
 -- ---- tests
 
@@ -36,10 +36,16 @@ pub fails : (t : Bool) → (t ≡ true → ⊥) → false ≡ t
 fails true h = absurd (h refl)
 fails false h = refl
 
+-- two numbers are equal where their xor is zero
+xor-test : (a b : ℕ) → eqb (bitXor a b) 0 ≡ eqb a b
+xor-test a b =
+    same-test (eqb (bitXor a b) 0) (eqb a b) (λ t. eq-eqb a b (xor-zero-eq a b (eqb-true _ 0 t)))
+    (λ t. eq-eqb _ 0 (ap (λ (x : ℕ). bitXor x b) (eqb-true a b t) ∙ xor-self b))
+
 -- ---- a chip that holds a codeword
 
 module _ (m : List ℕ) (bytes : Bytes m) where
-  check-fits : (k : ℕ) → checkAt m k < 256
+  pub check-fits : (k : ℕ) → checkAt m k < 256
   unfolding checkAt
   check-fits k = bytes (9 * k + 8)
 
@@ -55,50 +61,47 @@ module _ (m : List ℕ) (bytes : Bytes m) where
   check-sound k e =
       ap not (syndrome-codeword (cellAt m k) (ap (λ (b : ℕ). syndromeOf (cell (wordAt m k) b)) e ∙ check-makes (wordAt m k)))
 
-  -- ---- four chips at a time
+  -- whether it holds a codeword, by its check byte
+  pub check-tells : (k : ℕ) → not (eqb (checkOf (wordAt m k)) (checkAt m k)) ≡ unsound m k
+  unfolding unsound cellAt isCodeword
+  check-tells k =
+      sym (ap not (ap (λ (s : ℕ). eqb s 0) (syndrome-of (wordAt m k) (checkAt m k) (check-fits k)) ∙ xor-test (checkOf (wordAt m k)) (checkAt m k)))
 
-  -- the next four chips hold codewords where their check bytes are those that their words ask for
-  pub four-more : (k : ℕ) → count (unsound m) k ≡ 0 → fourFrom (λ j. checkOf (wordAt m j)) k ≡ fourFrom (checkAt m) k
-      → count (unsound m) (k + 4) ≡ 0
-  unfolding fourFrom
-  four-more k none e =
-      let q = lanes-equal _ _ _ _ _ _ _ _ (asked-fits k) (asked-fits (k + 1)) (asked-fits (k + 2)) (held-fits k) (held-fits (k + 1)) (held-fits (k + 2)) e in
-      let e₁ : unsound m (k + 1) ≡ false = check-sound (k + 1) (sym (q .1)) in
-      let e₂ : unsound m (k + 2) ≡ false = check-sound (k + 2) (sym (q .2)) in
-      let e₃ : unsound m (k + 3) ≡ false = check-sound (k + 3) (sym (q .3)) in
-      simp towards-suc
-      (count-next (unsound m) _
-      (count-next (unsound m) _
-      (count-next (unsound m) _ (count-next (unsound m) k none (check-sound k (sym (q .0)))) (simp towards-suc at e₁))
-      (simp towards-suc at e₂))
-      (simp towards-suc at e₃))
+  -- ---- eight chips, every other one at a time
+
+  -- the check byte that chip k's word asks for
+  abbrev asked : ℕ → ℕ
+  asked k = checkOf (wordAt m k)
+
+  -- eight chips hold codewords where their check bytes are those that their words ask for
+  pub eight-made : everyOther asked 0 ≡ everyOther (checkAt m) 0 → everyOther asked 1 ≡ everyOther (checkAt m) 1 → count (unsound m) 8 ≡ 0
+  unfolding count
+  eight-made e o =
+      let p = other-equal asked (checkAt m) (λ j. check-lt (wordAt m j)) check-fits 0 e in
+      let q = other-equal asked (checkAt m) (λ j. check-lt (wordAt m j)) check-fits 1 o in
+      let sound : (k : ℕ) → asked k ≡ checkAt m k → unsound m k ≡ false = λ k h. check-sound k (sym h) in
+      let none : count (unsound m) 0 ≡ 0 = refl in
+      let two : count (unsound m) 2 ≡ 0 = count-next (unsound m) 1 (count-next (unsound m) 0 none (sound 0 (p .0))) (sound 1 (q .0)) in
+      let four : count (unsound m) 4 ≡ 0 = count-next (unsound m) 3 (count-next (unsound m) 2 two (sound 2 (p .1))) (sound 3 (q .1)) in
+      let six : count (unsound m) 6 ≡ 0 = count-next (unsound m) 5 (count-next (unsound m) 4 four (sound 4 (p .2))) (sound 5 (q .2)) in
+      count-next (unsound m) 7 (count-next (unsound m) 6 six (sound 6 (p .3))) (sound 7 (q .3))
+
+  -- and where they do, every other check byte from chip k on is what its word asks for
+  pub eight-read : (k : ℕ) → k + 6 < 8 → count (unsound m) 8 ≡ 0 → everyOther asked k ≡ everyOther (checkAt m) k
+  unfolding everyOther
+  eight-read k l none =
+      λ i. lanes (at k (omega arith) i) (at (k + 2) (omega arith) i) (at (k + 4) (omega arith) i) (at (k + 6) (omega arith) i)
     where
-      asked-fits : (j : ℕ) → checkOf (wordAt m j) < 2 ^ 16
-      asked-fits j = omega (arith, check-lt (wordAt m j))
-
-      held-fits : (j : ℕ) → checkAt m j < 2 ^ 16
-      held-fits j = omega (arith, check-fits j)
-
-  -- where no chip below n holds anything else, the check bytes of four of them are those that their words ask for
-  pub four-equal : (n k : ℕ) → k + 3 < n → count (unsound m) n ≡ 0 → fourFrom (λ j. checkOf (wordAt m j)) k ≡ fourFrom (checkAt m) k
-  unfolding fourFrom
-  four-equal n k l none =
-      λ i. lanes (at k (omega arith) i) (at (k + 1) (omega arith) i) (at (k + 2) (omega arith) i) (at (k + 3) (omega arith) i)
-    where
-      at : (j : ℕ) → j < n → checkOf (wordAt m j) ≡ checkAt m j
-      at j h = sym (sound-check j (count-none (unsound m) n none j h))
+      at : (j : ℕ) → j < 8 → checkOf (wordAt m j) ≡ checkAt m j
+      at j h = sym (sound-check j (count-none (unsound m) 8 none j h))
 
   -- ---- the xor of the check bytes
 
   -- that of codewords is the check byte of the xor of their words
   xor-checks : (n : ℕ) → count (unsound m) n ≡ 0 → xorAll (checkAt m) n ≡ checkOf (xorAll (wordAt m) n)
-  unfolding xorAll
   xor-checks n none =
-      xorAll-ext (checkAt m) (λ k. checkOf (wordAt m k)) n (λ k l. sound-check k (count-none (unsound m) n none k l)) ∙ each-word n
-    where
-      each-word : (n : ℕ) → xorAll (λ k. checkOf (wordAt m k)) n ≡ checkOf (xorAll (wordAt m) n)
-      each-word zero = sym check-zero
-      each-word (suc n) = ap (λ (x : ℕ). bitXor x (checkOf (wordAt m n))) (each-word n) ∙ sym (check-xor (xorAll (wordAt m) n) (wordAt m n))
+      xorAll-ext (checkAt m) (λ k. checkOf (wordAt m k)) n (λ k l. sound-check k (count-none (unsound m) n none k l))
+      ∙ checks-xor (wordAt m) n
 
   -- the last of n + 1 chips holds a codeword where the others do and the words and the check bytes xor to zero
   last-sound : (n : ℕ) → xorAll (wordAt m) (suc n) ≡ 0 → xorAll (checkAt m) (suc n) ≡ 0 → count (unsound m) n ≡ 0 → unsound m n ≡ false

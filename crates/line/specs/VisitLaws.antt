@@ -87,6 +87,12 @@ sound-mended : (m : List ℕ) (k : ℕ) → unsound m k ≡ false → mendedAt m
 unfolding unsound
 sound-mended m k h = mendedWord-codeword (cellAt m k) (codeword-syndrome (cellAt m k) (not-false (isCodeword (cellAt m k)) h))
 
+-- so a chip that holds a codeword sends its word, Enable set or clear
+pub sound-sends : (enable : Bool) (register : ℕ) (m : List ℕ) (k : ℕ) → Bytes m → unsound m k ≡ false → sends enable register (cellAt m k) ≡ wordAt m k
+unfolding sends unsound
+sound-sends true register m k bytes h = rw (not-false (isCodeword (cellAt m k)) h) (held-word m k bytes)
+sound-sends false register m k bytes h = sound-mended m k h ∙ held-word m k bytes
+
 -- ---- which chips are flagged
 
 first-alone : (p q : Bool) → (p && q) ≡ false → (p && not q) ≡ p

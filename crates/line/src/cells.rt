@@ -7,8 +7,9 @@ ghost use mathlib.Core.List.{_∷_, [], reverse};
 ghost use Prim.Native.Nat.{_+_, _*_, _%_, _≤_, _<_};
 ghost use lib.ListN.{length, set};
 ghost use lib.Seq.{sets};
-ghost use Rattle.line.specs.Chips.{ofChips};
+ghost use Rattle.code.specs.Code.{checkOf};
 ghost use Rattle.line.specs.Cells.{numberOf, bytesOf, bytesFrom, chipAt, wordAt, checkAt, codeword, withChip, xorBytes, lineWord, stored, lineOf};
+use super::checks;
 
 // The word of chip K.
 pub fn word_at(line: &[u8], k: usize) -> u64
@@ -26,25 +27,22 @@ pub fn check_at(line: &[u8], k: usize) -> u8
     line[9 * k + 8]
 }
 
-// The nine words.
-pub fn words(line: &[u8]) -> [u64; 9]
-    requires { ⌜ length (now line) ≡ 81 ⌝ }
-    ensures { λ r. ⌜ r ≡ ofChips (wordAt (now (line .entry))) 9 ⌝ }
-{
-    let mut out = [0u64; 9];
-    for k in 0..9 {
-        out[k] = word_at(line, k);
-    }
-    out
-}
-
 // Lays the codeword of a word in chip K.
 pub fn lay(line: &mut [u8], k: usize, word: u64)
     requires { ⌜ (length (now line) ≡ 81) × (k < 9) ⌝ }
     ensures { λ _. ⌜ now (line .exit) ≡ withChip (now (line .entry)) k (codeword word) ⌝ }
 {
+    lay_checked(line, k, word, code::check_byte(word));
+}
+
+// Lays a word and its check byte, which the caller has, in chip K.
+fn lay_checked(line: &mut [u8], k: usize, word: u64, check: u8)
+    requires sizes { ⌜ (length (now line) ≡ 81) × (k < 9) ⌝ }
+    requires check { ⌜ check ≡ checkOf word ⌝ }
+    ensures { λ _. ⌜ now (line .exit) ≡ withChip (now (line .entry)) k (codeword word) ⌝ }
+{
     store_word(line, 9 * k, word);
-    store_byte(line, 9 * k + 8, code::check_byte(word));
+    store_byte(line, 9 * k + 8, check);
 }
 
 // Lays the codeword of a word in chip K where a test holds.
@@ -62,13 +60,14 @@ pub fn lay_line(line: &mut [u8], bytes: &[u8])
     requires { ⌜ (length (now line) ≡ 81) × (length (now bytes) ≡ 64) ⌝ }
     ensures { λ _. ⌜ now (line .exit) ≡ stored (lineWord (now (bytes .entry))) ⌝ }
 {
+    let eight = checks::of_eight(bytes, 8);
     let mut parity = 0u64;
     for k in 0..8 {
         let word = load_word(bytes, 8 * k);
         parity = parity ^ word;
-        lay(line, k, word);
+        lay_checked(line, k, word, checks::of_word(eight, k));
     }
-    lay(line, 8, parity);
+    lay_checked(line, 8, parity, checks::across(eight));
 }
 
 // Puts a line's 64 bytes, those of chips 0 to 7, in a buffer.
@@ -100,7 +99,7 @@ fn load_word(bytes: &[u8], at: usize) -> u64
 }
 
 // The number of eight bytes from a place on, lowest first.
-fn load_little(bytes: &[u8], at: usize) -> u64
+pub fn load_little(bytes: &[u8], at: usize) -> u64
     requires { ⌜ at + 8 ≤ length (now bytes) ⌝ }
     ensures { λ r. ⌜ r ≡ numberOf (reverse (bytesFrom 8 at (now (bytes .entry)))) ⌝ }
 {
@@ -176,7 +175,7 @@ fn number(a: u8, b: u8, c: u8, d: u8, e: u8, f: u8, g: u8, h: u8) -> u64
 }
 
 // The lowest byte of a number.
-fn low(x: u64) -> u8
+pub fn low(x: u64) -> u8
     ensures { λ r. ⌜ r ≡ x % 256 ⌝ }
 {
     (x % 256) as u8

@@ -5,16 +5,19 @@ ghost use lib.Bits.{bitXor};
 ghost use lib.Dec.{eqb};
 ghost use lib.ListN.{length, getD};
 ghost use Rattle.line.specs.Chips.{ofChips, joined, xorAll, mask, inMask};
-ghost use Rattle.line.specs.Cells.{wordAt, chipAt, codeword};
-ghost use Rattle.line.specs.Visit.{catchWord, passOne, isCandidate, isFlagged, outcomeOf, wordOf, bytesAfter, passesOf, reportOf, refusalOf};
+ghost use Rattle.line.specs.Cells.{chipAt, codeword};
+ghost use Rattle.line.specs.Visit.{catchWord, passOne, isCandidate, isFlagged, outcomeOf, writtenBack, bytesAfter, passesOf, reportOf, refusalOf};
+ghost use Rattle.line.specs.Scan.{unsound};
 ghost use Rattle.line.specs.declared.Outcome.the-variants.{Answered, Refused};
 
 pub mod cells;
+mod checks;
 mod chips;
 mod first;
 pub mod masks;
 mod scan;
 mod second;
+mod sound;
 mod third;
 
 use first::Heard;
@@ -54,14 +57,16 @@ pub fn visit(line: &mut [u8], catch_words: &[u64; 9]) -> Report
             collisions: 0,
         };
     }
+    // Whether a chip holds a codeword is worked out once, for all passes.
+    let bad = sound::bad_chips(line);
     // Step 1.
-    let heard = first::pass(line, catch_words);
+    let heard = first::pass(line, catch_words, bad);
     let candidates = heard.candidates;
-    // Step 2. Without candidates it asks no chip.
-    let flagged = second::pass(line, catch_words, candidates);
+    // Step 2. Without candidates none is flagged.
+    let flagged = second::pass(line, catch_words, bad, candidates);
     let collisions = candidates & (flagged ^ masks::CHIPS);
     // Steps 3 to 5.
-    let found = resolve(line, catch_words, heard, flagged);
+    let found = resolve(line, catch_words, bad, heard, flagged);
     let outcome = found.outcome;
     let passes = found.passes;
     // Step 6. Only an answered line is written back.
@@ -93,7 +98,8 @@ pub fn refusal(outcome: Outcome) -> u32
     }
 }
 
-// What steps 3 to 5 find: the outcome, the passes made by then, and the nine words.
+// What steps 3 to 5 find: the outcome, the passes made by then, and the words of the flagged chips, each at its chip's place. What stands at
+// the others' places is not looked at.
 struct Found {
     outcome: Outcome,
     passes: u32,
@@ -101,35 +107,36 @@ struct Found {
 }
 
 // Steps 3 to 5, by how many chips are flagged.
-fn resolve(line: &[u8], catch_words: &[u64; 9], heard: Heard, flagged: u32) -> Found
+fn resolve(line: &[u8], catch_words: &[u64; 9], bad: u32, heard: Heard, flagged: u32) -> Found
     requires sizes { ⌜ (length (now line) ≡ 81) × (length (now «catch_words») ≡ 9) ⌝ }
+    requires bad { ⌜ bad ≡ mask (unsound (now line)) 9 ⌝ }
     requires candidates { ⌜ heard .candidates ≡ mask (isCandidate (now line) (now «catch_words»)) 9 ⌝ }
     requires parity { ⌜ heard .parity ≡ xorAll (passOne (now line) (now «catch_words»)) 9 ⌝ }
     requires flagged { ⌜ flagged ≡ mask (isFlagged (now line) (now «catch_words»)) 9 ⌝ }
     ensures outcome { λ r. ⌜ r .outcome ≡ outcomeOf (now (line .entry)) (now («catch_words» .entry)) ⌝ }
     ensures passes { λ r. ⌜ r .passes ≡ passesOf (now (line .entry)) (now («catch_words» .entry)) ⌝ }
-    ensures words { λ r. ⌜ r .words ≡ ofChips (wordOf (now (line .entry)) (now («catch_words» .entry))) 9 ⌝ }
+    ensures words { λ r. ⌜ joined (λ k. cond (isFlagged (now (line .entry)) (now («catch_words» .entry)) k) (codeword (getD (r .words) k 0)) (chipAt (now (line .entry)) k)) 9
+        ≡ writtenBack (now (line .entry)) (now («catch_words» .entry)) ⌝ }
 {
     let chips = u32::count_ones(flagged);
     if chips == 0 {
         let outcome = must_cancel(heard.parity, PARITY);
         let passes = passes_to_two(heard.candidates);
-        let words = cells::words(line);
         return Found {
             outcome,
             passes,
-            words,
+            words: [0u64; 9],
         };
     }
     if chips == 1 {
-        let words = rebuilt(line, catch_words, flagged, heard.parity);
+        let words = rebuilt(catch_words, heard.parity);
         return Found {
             outcome: Outcome::Answered,
             passes: 2,
             words,
         };
     }
-    let words = third::pass(line);
+    let words = third::pass(line, bad);
     let mended = third::xor_all(words);
     let outcome = must_cancel(mended, MENDED);
     Found {
@@ -157,25 +164,17 @@ fn must_cancel(parity: u64, number: u32) -> Outcome
     }
 }
 
-// The nine words where one chip is flagged. That chip sent its catch-word, which is taken off the xor of all nine.
-fn rebuilt(line: &[u8], catch_words: &[u64; 9], flagged: u32, parity: u64) -> [u64; 9]
-    requires { ⌜ (length (now line) ≡ 81) × (length (now «catch_words») ≡ 9) ⌝ }
-    ensures { λ r. ⌜ r ≡ ofChips (λ k. cond (inMask flagged k) (bitXor parity (catchWord (now («catch_words» .entry)) k)) (wordAt (now (line .entry)) k)) 9 ⌝ }
+// At each chip's place, its word if it is the one chip flagged: that chip sent its catch-word, which is taken off the xor of all nine.
+fn rebuilt(catch_words: &[u64; 9], parity: u64) -> [u64; 9]
+    requires { ⌜ length (now «catch_words») ≡ 9 ⌝ }
+    ensures { λ r. ⌜ r ≡ ofChips (λ k. bitXor parity (catchWord (now («catch_words» .entry)) k)) 9 ⌝ }
 {
     let mut words = [0u64; 9];
     for k in 0..9 {
-        let flag = masks::member(flagged, k);
         let own = catch_words[k];
-        words[k] = choose(flag, parity ^ own, cells::word_at(line, k));
+        words[k] = parity ^ own;
     }
     words
-}
-
-// The first of two words where a test holds, else the second.
-fn choose(test: bool, a: u64, b: u64) -> u64
-    ensures { λ r. ⌜ r ≡ cond test a b ⌝ }
-{
-    if test { a } else { b }
 }
 
 // Each flagged chip gets its word and check byte.

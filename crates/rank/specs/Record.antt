@@ -1,9 +1,11 @@
 -- Document 01, "The rank" (the record) and "A visit to a line", step 6 (what a visit does to it). r stands for the record.
 -- Definitions alone.
 use Prim.Native.Nat.{ℕ, _+_, _%_, _^_, min}
-use mathlib.Core.Bool.{true, false, cond}
+use mathlib.Core.Bool.{Bool, true, false, cond}
 use mathlib.Core.List.{List}
+use lib.Bits.{bitOr}
 use lib.Count.{ones}
+use lib.Dec.{eqb}
 use lib.ListN.{getD, replicate}
 use Rattle.line.specs.Chips.{ofChips, inMask}
 use Rattle.line.specs.declared.Report.{Report}
@@ -55,3 +57,11 @@ settledBy (Refused number) v r = r
 -- the record after a visit that reports v
 unfoldable pub settled : Report → Rank → Rank
 settled v r = settledBy (v .outcome) v r
+
+-- not of document 01: an answered visit that reports no chip, after which there is nothing to count
+abbrev pub stillBy : Outcome → Bool → Bool
+stillBy Answered none = none
+stillBy (Refused n) none = false
+
+unfoldable pub isStill : Report → Bool
+isStill v = stillBy (v .outcome) (eqb (bitOr (v .flagged) (v .collisions)) 0)

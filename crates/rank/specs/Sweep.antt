@@ -1,9 +1,7 @@
 -- The visits of a patrol as its loop counts them.
 -- Definitions alone; what holds of them is in `SweepLaws`.
-use Prim.Native.Nat.{ℕ, _+_}
-use mathlib.Core.List.{List}
+use Prim.Native.Nat.{_+_}
 use Rattle.line.specs.declared.Report.{Report}
-use Rattle.rank.specs.declared.Rank.{Rank}
 use Rattle.rank.specs.declared.sweep.Tally.{Tally}
 use Rattle.rank.specs.Record.{settled}
 use Rattle.rank.specs.Calls.{isRefused, rewrittenBy}

@@ -1,7 +1,7 @@
 -- The visits of a patrol, turn by turn, and the patrol that they make.
 -- Assumes nothing.
-use mathlib.Core.Path.{_≡_, refl, sym, ap, ap₂, _∙_}
-use mathlib.Core.Bool.{Bool}
+use mathlib.Core.Path.{_≡_, refl, sym, ap, ap₂, _∙_, subst}
+use mathlib.Core.Bool.{Bool, true}
 use mathlib.Core.List.{List, [], _∷_}
 use Prim.Native.Nat.{ℕ, zero, suc, _+_, _-_, _*_, _≤_, _<_, min, zero-le}
 use native.Mathlib.Nat.{add-zero, sub-zero, zero-add}
@@ -19,8 +19,8 @@ use Rattle.rank.specs.declared.sweep.Tally.{Tally}
 use Rattle.rank.specs.Runs.{Did, outs, end, upFrom}
 use Rattle.rank.specs.Lines.{lineAt, withLine}
 use Rattle.rank.specs.LineLaws.{length-withLine}
-use Rattle.rank.specs.Record.{settled}
-use Rattle.rank.specs.RecordLaws.{length-settled}
+use Rattle.rank.specs.Record.{totalLimit, settled, isStill}
+use Rattle.rank.specs.RecordLaws.{Still, no-ones, still-is, settled-still, length-settled, length-settled-registers, total-settled}
 use Rattle.rank.specs.Calls.{Device, device, visitOf, isRefused, rewrittenBy, refusedIn, rewrittenIn, patrolled, patrolLines, patrolBy}
 use Rattle.rank.specs.Sweep.{tallied}
 
@@ -93,6 +93,17 @@ tallied-answered t v e =
     ap (λ (o : Outcome). t .rewritten + rewrittenBy o (v .flagged)) e in
     λ i. record { refused = a i; rewritten = b i; rank = settled v (t .rank) }
 
+-- ---- a visit that leaves nothing to count
+
+pub tallied-still : (t : Tally) (v : Report) → isStill v ≡ true → length (t .rank .«catch_words») ≡ 9 → length (t .rank .registers) ≡ 9
+    → t .rank .repairs ≤ totalLimit → tallied t v ≡ t
+tallied-still t v h words registers few =
+    let s : Still v = still-is v h in
+    let f : ones (v .flagged) ≡ 0 = ap ones (s .flagged) ∙ no-ones in
+    let a : t .rewritten + ones (v .flagged) ≡ t .rewritten = omega (arith, f) in
+    let r : settled v (t .rank) ≡ t .rank = settled-still v (t .rank) h words registers few in
+    tallied-answered t v (s .answered) ∙ (λ i. record { refused = t .refused; rewritten = a i; rank = r i })
+
 -- ---- the loop
 
 -- i of n visits from line l on are made: what is counted, and what the visits that are left give, make the whole
@@ -100,6 +111,8 @@ pub record Swept (r : Rank) (m : List ℕ) (l n : ℕ) (t : Tally) (s : List ℕ
   pub within : i ≤ n
   pub size : length s ≡ length m
   pub words : length (t .rank .«catch_words») ≡ 9
+  pub registers : length (t .rank .registers) ≡ 9
+  pub total : t .rank .repairs ≤ totalLimit
   pub few-refused : t .refused ≤ i
   pub few-rewritten : t .rewritten ≤ 9 * i
   pub refused : t .refused + refusedIn (outs visitOf (device (t .rank) s) (upFrom (l + i) (n - i))) ≡ refusedIn
@@ -108,14 +121,16 @@ pub record Swept (r : Rank) (m : List ℕ) (l n : ℕ) (t : Tally) (s : List ℕ
       (outs visitOf (device r m) (upFrom l n))
   pub ends : end visitOf (device (t .rank) s) (upFrom (l + i) (n - i)) ≡ end visitOf (device r m) (upFrom l n)
 
-pub swept-none : (r : Rank) (m : List ℕ) (l n : ℕ) → length (r .«catch_words») ≡ 9
+pub swept-none : (r : Rank) (m : List ℕ) (l n : ℕ) → length (r .«catch_words») ≡ 9 → length (r .registers) ≡ 9 → r .repairs ≤ totalLimit
     → Swept r m l n (record { refused = 0; rewritten = 0; rank = r }) m 0
-swept-none r m l n words =
+swept-none r m l n words registers total =
     let e : upFrom (l + 0) (n - 0) ≡ upFrom l n = all-lines l n in
     record {
       within = zero-le;
       size = refl;
       words = words;
+      registers = registers;
+      total = total;
       few-refused = zero-le;
       few-rewritten = zero-le;
       refused = zero-add _ ∙ ap (λ (ls : List ℕ). refusedIn (outs visitOf (device r m) ls)) e;
@@ -163,6 +178,8 @@ module _ {r : Rank} {m : List ℕ} {l n : ℕ} {t u : Tally} {s x : List ℕ} {i
         within = omega arith;
         size = ap length memory ∙ length-withLine s (l + i) (bytesAfter (lineAt s (l + i)) (t .rank .«catch_words»)) ∙ h .size;
         words = ap (λ (y : Rank). length (y .«catch_words»)) now-rank ∙ length-settled v (t .rank) (h .words);
+        registers = ap (λ (y : Rank). length (y .registers)) now-rank ∙ length-settled-registers v (t .rank) (h .registers);
+        total = subst (λ (y : Rank). y .repairs ≤ totalLimit) (sym now-rank) (total-settled v (t .rank) (h .total));
         few-refused = omega (arith, a, refused-most (v .outcome), h .few-refused);
         few-rewritten = omega (
           arith,

@@ -17,6 +17,17 @@ pub fn visit_into(rank: Rank, memory: &mut [u8], line: u32, buffer: &mut [u8]) -
     ensures buffer { λ _. ⌜ now (buffer .exit) ≡ readBy 0 rank (now (memory .entry)) line (now (buffer .entry)) .buffer ⌝ }
 {
     let report = lines::visit(memory, line, &rank.catch_words);
+    // Most lines are clean, and the record is handed back as it came.
+    if record::is_still(report) {
+        lines::copy(memory, line, buffer);
+        return ReadResult {
+            refusal: 0,
+            passes: report.passes,
+            flagged: 0,
+            collisions: 0,
+            rank,
+        };
+    }
     let outcome = report.outcome;
     let Outcome::Answered = outcome else {
         return ReadResult {
@@ -28,11 +39,22 @@ pub fn visit_into(rank: Rank, memory: &mut [u8], line: u32, buffer: &mut [u8]) -
         };
     };
     lines::copy(memory, line, buffer);
+    let collisions = report.collisions;
+    // Without collisions the total is all that can grow: `settle` would do the same with one more copy of the record.
+    if collisions == 0 {
+        return ReadResult {
+            refusal: 0,
+            passes: report.passes,
+            flagged: report.flagged,
+            collisions,
+            rank: record::repaired(rank, report),
+        };
+    }
     ReadResult {
         refusal: 0,
         passes: report.passes,
         flagged: report.flagged,
-        collisions: report.collisions,
+        collisions,
         rank: record::settle(rank, report),
     }
 }

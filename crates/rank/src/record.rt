@@ -3,7 +3,8 @@ ghost use mathlib.Core.Path.{_≡_};
 ghost use mathlib.Core.Bool.{cond};
 ghost use Prim.Native.Nat.{_+_, _/_, _<_, min};
 ghost use lib.ListN.{length};
-ghost use Rattle.rank.specs.Record.{totalLimit, booted, grown, moved, settled};
+ghost use Rattle.line.specs.declared.Outcome.the-variants.{Answered};
+ghost use Rattle.rank.specs.Record.{totalLimit, booted, grown, moved, settled, isStill};
 ghost use Rattle.rank.specs.Calls.{renewed};
 use crate::Rank;
 use line::Outcome;
@@ -56,9 +57,9 @@ pub fn settle(rank: Rank, report: Report) -> Rank
     let Outcome::Answered = outcome else {
         return rank;
     };
-    let chips = report.flagged | report.collisions;
-    if chips == 0 {
-        return rank;
+    let collisions = report.collisions;
+    if collisions == 0 {
+        return repaired(rank, report);
     }
     let catch_words = rank.catch_words;
     let registers = rank.registers;
@@ -69,6 +70,28 @@ pub fn settle(rank: Rank, report: Report) -> Rank
         registers: moved(registers, report.collisions),
         repairs: total_after(rank.repairs, u32::count_ones(report.flagged)),
     }
+}
+
+// Whether a visit is answered and reports no chip, so that there is nothing to count and the record stays as it is.
+pub fn is_still(report: Report) -> bool
+    ensures { λ r. ⌜ r ≡ isStill report ⌝ }
+{
+    let end = report.outcome;
+    let Outcome::Answered = end else {
+        return false;
+    };
+    let chips = report.flagged | report.collisions;
+    chips == 0
+}
+
+// Step 6 where an answered visit met no collision: the total is all that can grow.
+pub fn repaired(rank: Rank, report: Report) -> Rank
+    requires { ⌜ (report .outcome ≡ Answered) × (report .collisions ≡ 0) ⌝ }
+    ensures { λ r. ⌜ r ≡ settled report rank ⌝ }
+{
+    let mut after = rank;
+    after.repairs = total_after(rank.repairs, u32::count_ones(report.flagged));
+    after
 }
 
 // Nine catch-words or registers, those of the colliding chips moved.

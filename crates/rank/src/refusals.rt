@@ -1,9 +1,9 @@
 // The refusals of each call, in document 01's order: their number, 0 for none.
 ghost use mathlib.Core.Path.{_≡_};
 ghost use mathlib.Core.Bool.{not};
-ghost use lib.Dec.{eqb};
+ghost use lib.Dec.{eqb, ltb};
 ghost use lib.ListN.{getD};
-ghost use Rattle.line.specs.Chips.{bit, count};
+ghost use Rattle.line.specs.Chips.{count};
 ghost use Rattle.rank.specs.Refusals.{memoryOut, notReady, registerDiffers, stateRefusals, firstOf, bootRefusal, bufferRefusal, patrolRefusal, renewRefusal, faultRefusal};
 use crate::Rank;
 
@@ -130,23 +130,17 @@ fn register_differs(rank: Rank) -> bool
 {
     let registers = rank.registers;
     let catch_words = rank.catch_words;
-    0 < differing(registers, catch_words)
+    differs(registers, catch_words)
 }
 
-// How many registers differ from their catch-words.
-fn differing(registers: [u64; 9], catch_words: [u64; 9]) -> u32
-    ensures { λ r. ⌜ r ≡ count (λ k. not (eqb (getD registers k 0) (getD «catch_words» k 0))) 9 ⌝ }
+// Whether one of nine registers differs from its catch-word.
+fn differs(registers: [u64; 9], catch_words: [u64; 9]) -> bool
+    ensures { λ r. ⌜ r ≡ ltb 0 (count (λ k. not (eqb (getD registers k 0) (getD «catch_words» k 0))) 9) ⌝ }
 {
-    let mut n = 0u32;
     for k in 0..9 {
-        n = n + one_if(registers[k] != catch_words[k]);
+        if registers[k] != catch_words[k] {
+            return true;
+        }
     }
-    n
-}
-
-// A test as a number.
-fn one_if(test: bool) -> u32
-    ensures { λ r. ⌜ r ≡ bit test ⌝ }
-{
-    if test { 1 } else { 0 }
+    false
 }

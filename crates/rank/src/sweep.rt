@@ -40,7 +40,10 @@ pub fn sweep(rank: Rank, memory: &mut [u8], first: u32, n: u32) -> Tally
     };
     for i in 0..n {
         let report = lines::visit(memory, first + i, &tally.rank.catch_words);
-        tally = tallied(tally, report);
+        // Most lines leave nothing to count, and the record is not copied for them.
+        if !record::is_still(report) {
+            tally = tallied(tally, report);
+        }
     }
     tally
 }

@@ -18,7 +18,7 @@ returns c =
 
 returns-2 : tie.Need-returns-2
 returns-2 c =
-    let x = c .before .before .before .before .before .before .before .before .before .before .before .before .args in
+    let x = c .before .before .before .before .before .before .before .before .before .before .before .before .before .before .args in
     let found = c .before .before .resolve .ensures in
     let flagged = c .before .before .before .before .pass2 .ensures in (
       full-report (x .line .now) (x .catch-words .now) flagged (found .0) (c .before .before .before .before .before .before .pass .ensures .0) (found .1 .0),
@@ -27,11 +27,11 @@ returns-2 c =
 
 returns-3 : tie.Need-returns-3
 returns-3 c =
-    let x = c .before .before .before .before .before .before .before .before .before .before .before .before .before .before .before .before .before .args in
+    let x = c .before .before .before .before .before .before .before .before .before .before .before .before .before .before .before .before .before .before .before .args in
     let found = c .before .before .before .before .before .before .before .resolve .ensures in
     let flagged = c .before .before .before .before .before .before .before .before .before .pass2 .ensures in (
       full-report (x .line .now) (x .catch-words .now) flagged (found .0) (c .before .before .before .before .before .before .before .before .before .before .before .pass .ensures .0) (found .1 .0),
-      answered-bytes (x .line .now) (x .catch-words .now) flagged (found .0) (c .before .before .before .before .before .enum-told .given .1) (found .1 .1) (c .before .before .write-back .ensures),
+      answered-bytes (x .line .now) (x .catch-words .now) flagged (found .0) (c .before .before .before .before .before .enum-told .given .1) (c .before .before .before .before .before .before .before .resolve .result .words) (found .1 .1) (c .before .before .write-back .ensures),
     )
 
 pub visit-spec : {M : Type 1} → statement M
@@ -41,6 +41,7 @@ visit-spec =
     (λ c κs. search needs)
     (λ c. search needs)
     returns
+    (λ c κs. search needs)
     (λ c κs. search needs)
     (λ c κs. search needs)
     (λ c κs. search needs)

@@ -5,29 +5,36 @@ use native.Mathlib.Omega.{arith}
 use lib.Dec.{eqb}
 use Rattle.line.specs.Chips.{xorAll, bit, mask}
 use Rattle.line.specs.Visit.{sentAt, catchWord, passOne, isCandidate}
-use Rattle.line.proofs.Loops.{Upto, none-yet, mask-more, xor-more, upto-all}
+use Rattle.line.specs.Scan.{unsound}
+use Rattle.line.proofs.Loops.{Upto, none-yet, mask-more, xor-more, upto-all, member-is}
 use borrow.Author.Needs.{needs}
 use Rattle.line.proofs.first.pass.Statement.{statement}
 use Rattle.line.proofs.first.pass.Tie as tie
 
 abbrev Inv-loop : tie.InvT-loop
-Inv-loop line catch-words candidates₀ parity₀ k₀ candidates parity k =
+Inv-loop line catch-words bad candidates₀ parity₀ k₀ candidates parity k =
     Upto (mask (isCandidate line catch-words)) 9 candidates k × Upto (xorAll (passOne line catch-words)) 9 parity k
 
 abbrev μ-loop : tie.MeasureT-loop
-μ-loop line catch-words candidates₀ parity₀ k₀ candidates parity k = 9 - k
+μ-loop line catch-words bad candidates₀ parity₀ k₀ candidates parity k = 9 - k
 
 loop-holds : tie.Need-loop-holds Inv-loop μ-loop
 unfolding mask xorAll
 loop-holds c = (none-yet _ 9 refl, none-yet _ 9 refl)
 
+sent-by-requires : tie.Need-sent-by-requires Inv-loop μ-loop
+sent-by-requires c κs =
+    let s = c .before .before .before .before .before in
+    let inside = c .before .before .loop-test .taken in
+    ((s .pre .0 .0, inside), member-is (unsound (s .args .line .now)) (s .pre .1) inside (c .member .ensures))
+
 loop-again : tie.Need-loop-again Inv-loop μ-loop
 unfolding isCandidate passOne sentAt catchWord
 loop-again c =
-    let l = c .before .before .before .before .loop in
-    let inside : l .k < 9 = omega (arith, c .before .before .before .loop-test .taken) in
+    let l = c .before .before .before .before .before .loop in
+    let inside : l .k < 9 = omega (arith, c .before .before .before .before .loop-test .taken) in
     let sent = c .before .sent-by .ensures in
-    let x = c .before .before .before .before .before .before .args in (
+    let x = c .before .before .before .before .before .before .before .args in (
       mask-more (isCandidate (x .line .now) (x .catch-words .now)) (l .inv .0) inside (c .only-if .ensures ∙ ap (λ (v : ℕ). bit (eqb v (catchWord (x .catch-words .now) (l .k))) * 2 ^ l .k) sent),
       xor-more (passOne (x .line .now) (x .catch-words .now)) (l .inv .1) inside sent,
     )
@@ -45,6 +52,7 @@ pass-spec =
     (λ c. search needs)
     (λ c. search needs)
     (λ c κs. search needs)
+    sent-by-requires
     (λ c κs. search needs)
     (λ c. search needs)
     (λ c. search needs)

@@ -1,13 +1,13 @@
 -- `line::scan::held` meets its contract. Assumes nothing.
 use mathlib.Core.Path.{_∙_}
 use Rattle.code.specs.Lanes.{lanes}
-use Rattle.line.specs.Scan.{fourFrom}
+use Rattle.line.specs.Checks.{everyOther}
 use borrow.Author.Needs.{needs}
 use Rattle.line.proofs.scan.held.Statement.{statement}
 use Rattle.line.proofs.scan.held.Tie as tie
 
 returns : tie.Need-returns
-unfolding fourFrom
+unfolding everyOther
 returns c =
     let s = c .before .before .before .before in
     c .pack .ensures

@@ -1,8 +1,7 @@
 -- `rank::record::settle` meets its contract. Assumes nothing.
 use mathlib.Core.Path.{sym, _∙_}
-use native.Mathlib.Omega.{arith}
 use Rattle.rank.specs.Record.{settledBy}
-use Rattle.rank.specs.RecordLaws.{settled-refused, settled-answered, settled-still}
+use Rattle.rank.specs.RecordLaws.{settled-refused, settled-answered}
 use borrow.Author.Needs.{needs}
 use Rattle.rank.proofs.record.settle.Statement.{statement}
 use Rattle.rank.proofs.record.settle.Tie as tie
@@ -10,16 +9,15 @@ use Rattle.rank.proofs.record.settle.Tie as tie
 returns : tie.Need-returns
 returns c = sym (settled-refused ((c .before .before .args .report)) ((c .before .before .args .rank)) _ (c .enum-told2 .given .1))
 
-returns-2 : tie.Need-returns-2
-returns-2 c = sym (settled-still ((c .before .before .before .before .args .report)) ((c .before .before .before .before .args .rank))
-    (c .before .before .enum-told .given .1) (c .if1 .taken) (search needs) (search needs) (omega arith))
+repaired-requires : tie.Need-repaired-requires
+repaired-requires c κs = (c .before .enum-told .given .1, c .if1 .taken)
 
 returns-3 : tie.Need-returns-3
 unfolding settledBy
 returns-3 c =
-    let a = c .before .before .before .before .before .before .before .before .before .before .args in
+    let a = c .before .before .before .before .before .before .before .before .before .args in
     let first = c .before .before .before .moved in
-    let enum-told = c .before .before .before .before .before .before .before .before .enum-told in
+    let enum-told = c .before .before .before .before .before .before .before .enum-told in
     (λ i. record {
       lines = a .rank .lines;
       enable = a .rank .enable;
@@ -37,7 +35,8 @@ settle-spec =
     (λ c. search needs)
     (λ c. search needs)
     returns
-    returns-2
+    repaired-requires
+    (λ c. c .repaired .ensures)
     (λ c κs. search needs)
     (λ c κs. search needs)
     (λ c κs. search needs)

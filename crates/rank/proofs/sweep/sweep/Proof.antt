@@ -1,8 +1,12 @@
 -- `rank::sweep::sweep` meets its contract. Assumes nothing.
+use mathlib.Core.Path.{_≡_, sym, _∙_}
+use mathlib.Core.Logic.{⊎-elim}
 use Prim.Native.Nat.{_-_}
 use native.Mathlib.Omega.{arith}
-use Rattle.rank.specs.SweepLaws.{Swept, swept-none, swept-more, flagged-most, all-refused, all-rewritten, all-ended}
+use Rattle.rank.specs.SweepLaws.{Swept, swept-none, swept-more, tallied-still, flagged-most, all-refused, all-rewritten, all-ended}
+use Rattle.rank.specs.Sweep.{tallied}
 use borrow.Author.Needs.{needs}
+use borrow.Author.Tests.{not-false}
 use Rattle.rank.proofs.sweep.sweep.Statement.{statement}
 use Rattle.rank.proofs.sweep.sweep.Tie as tie
 
@@ -18,14 +22,28 @@ visit-requires c κs =
 
 tallied-requires : tie.Need-tallied-requires Inv-loop μ-loop
 tallied-requires c κs =
-    let loop = c .before .before .before .before .before .before .before .loop in
-    let v = c .before .before .visit in
+    let loop = c .before .before .before .before .before .before .before .before .before .loop in
+    let v = c .before .before .before .before .visit in
     (omega (arith, (loop .inv .few-refused)), omega (arith, (loop .inv .few-rewritten), flagged-most _ _ (v .result) (v .ensures .0)))
 
+-- the visit is counted, or there is nothing to count
+counts : (c : tie.Joined1 Inv-loop μ-loop)
+    → c .if1 .tally ≡ tallied (c .before .before .before .before .before .before .before .before .before .loop .tally)
+    (c .before .before .before .before .visit .result)
+counts c =
+    let loop = c .before .before .before .before .before .before .before .before .before .loop in
+    let v = c .before .before .before .before .visit in
+    ⊎-elim (λ w. w .2 ∙ w .1 .ensures)
+    (λ w. w .1 ∙ sym (tallied-still (loop .tally) (v .result) (sym (c .before .is-still .ensures) ∙ not-false _ (w .0 .left)) (loop .inv .words)
+    (loop .inv .registers) (loop .inv .total)))
+    (c .if1 .came)
+
 loop-again : tie.Need-loop-again Inv-loop μ-loop
-loop-again c = swept-more (c .before .before .before .before .before .before .before .before .loop .inv)
-    (c .before .before .before .before .before .before .before .loop-test .taken) (c .before .before .before .visit .ensures .0)
-    (c .before .before .before .visit .ensures .1) (c .tallied .ensures)
+loop-again c =
+    let loop = c .before .before .before .before .before .before .before .before .before .loop in
+    let loop-test = c .before .before .before .before .before .before .before .before .loop-test in
+    let v = c .before .before .before .before .visit in
+    swept-more (loop .inv) (loop-test .taken) (v .ensures .0) (v .ensures .1) (counts c)
 
 returns : tie.Need-returns Inv-loop μ-loop
 returns c = (
@@ -39,9 +57,10 @@ sweep-spec =
     (tie.spec
     Inv-loop
     μ-loop
-    (λ c. swept-none _ _ _ _ (search needs))
+    (λ c. swept-none _ _ _ _ (search needs) (search needs) (omega arith))
     (λ c. search needs)
     visit-requires
+    (λ c κs. search needs)
     tallied-requires
     (λ c. search needs)
     (λ c. search needs)

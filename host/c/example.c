@@ -1,0 +1,290 @@
+/*
+ * A mapping table in a rank of four lines, with a copy of it elsewhere. Each step makes a call, looks at the refusal
+ * and keeps the returned record. The program checks what it finds and ends with status 1 if something is not as
+ * expected.
+ */
+#include "rank.h"
+
+#include <stdio.h>
+#include <stdlib.h>
+#include <string.h>
+
+#define LINES 4
+
+/* What a refusal asks of the caller. */
+typedef enum { FINE, CALLER_ERROR, RANK_LOST, LINE_LOST } Kind;
+
+static uint8_t memory[LINES * RANK_LINE_BYTES];
+static Rank rank;
+
+/* Where a lost line is taken from: on a flash card, the copy on flash. */
+static uint8_t copy[LINES][RANK_DATA_BYTES];
+
+/* Fixed here so that each run prints the same. A device takes nine random numbers at each boot. */
+static const uint64_t catch_words[RANK_CHIPS] = {
+    0x3c6ef372fe94f82b, 0xa54ff53a5f1d36f1, 0x510e527fade682d1, 0x9b05688c2b3e6c1f, 0x1f83d9abfb41bd6b,
+    0x5be0cd19137e2179, 0xcbbb9d5dc1059ed8, 0x629a292a367cd507, 0x9159015a3070dd17,
+};
+
+static void expect(bool met, const char *what) {
+    if (!met) {
+        fprintf(stderr, "not as expected: %s\n", what);
+        exit(1);
+    }
+}
+
+/* Words for every refusal. */
+static const char *refusal_words(uint32_t refusal) {
+    switch (refusal) {
+    case RANK_OK: return "carried out";
+    case RANK_LINE: return "the rank has no such line";
+    case RANK_BUFFER: return "the line buffer is not 64 bytes";
+    case RANK_CHIP: return "the rank has no such chip";
+    case RANK_PATTERN: return "the pattern is not 9 bytes";
+    case RANK_CATCH_WORDS: return "there are not nine catch-words";
+    case RANK_BOOT_MEMORY: return "the memory is empty, no multiple of 81 bytes, or over 65,536 lines";
+    case RANK_NOT_READY: return "the record is not that of a booted rank";
+    case RANK_MEMORY_LENGTH: return "the memory has not the length that it had at boot";
+    case RANK_REGISTERS: return "a chip's register differs from its catch-word";
+    case RANK_PARITY: return "no chip knows that it is bad, but the nine words don't fit together";
+    case RANK_MENDED: return "two or more chips are bad, and mending them doesn't make the nine words fit together";
+    default: return "no refusal of this library";
+    }
+}
+
+static Kind kind_of(uint32_t refusal) {
+    switch (refusal) {
+    case RANK_OK: return FINE;
+    case RANK_NOT_READY:
+    case RANK_REGISTERS: return RANK_LOST;
+    case RANK_PARITY:
+    case RANK_MENDED: return LINE_LOST;
+    default: return CALLER_ERROR;
+    }
+}
+
+static void boot(void) {
+    Called called = rank_boot(memory, sizeof memory, catch_words, RANK_CHIPS);
+    expect(called.refusal == RANK_OK, "boot");
+    rank = called.rank;
+    printf("boot: %u lines\n", (unsigned)rank.lines);
+}
+
+/* Puts the copy of a line in the rank. */
+static void restore(uint32_t line) {
+    Called called = rank_write(rank, memory, sizeof memory, line, copy[line], RANK_DATA_BYTES);
+    rank = called.rank;
+    expect(called.refusal == RANK_OK, "write");
+    printf("line %u: written\n", (unsigned)line);
+}
+
+/* Says why a call was refused and does what that kind of refusal asks for. `line` is the line of that call. */
+static void act_on(uint32_t refusal, uint32_t line) {
+    printf("refused with %u: %s\n", (unsigned)refusal, refusal_words(refusal));
+    switch (kind_of(refusal)) {
+    case FINE: break;
+    case CALLER_ERROR: printf("  an error in the call: nothing has changed, correct the program\n"); break;
+    case RANK_LOST:
+        printf("  the record is not one that a call returned: boot again, write every line from the copy\n");
+        boot();
+        for (uint32_t each = 0; each < LINES; each++)
+            restore(each);
+        break;
+    case LINE_LOST:
+        printf("  line %u is lost: write it again from the copy\n", (unsigned)line);
+        restore(line);
+        break;
+    }
+}
+
+static void print_chips(uint32_t mask) {
+    const char *gap = "";
+    for (uint32_t chip = 0; chip < RANK_CHIPS; chip++)
+        if (mask >> chip & 1) {
+            printf("%s%u", gap, (unsigned)chip);
+            gap = " and ";
+        }
+}
+
+/* Says what an answered read found. */
+static void tell(uint32_t line, const ReadResult *read) {
+    bool one = (read->flagged & (read->flagged - 1)) == 0;
+    printf("line %u: ", (unsigned)line);
+    if (read->flagged == 0) {
+        printf("no chip was bad");
+    } else if (one) {
+        printf("chip ");
+        print_chips(read->flagged);
+        printf(" was rebuilt from the other eight");
+    } else {
+        printf("chips ");
+        print_chips(read->flagged);
+        printf(" were mended by their own codes");
+    }
+    if (read->collisions != 0) {
+        printf(", data met the catch-word of chip ");
+        print_chips(read->collisions);
+        printf(", which has a new one");
+    }
+    printf(" (passes: %u)\n", (unsigned)read->passes);
+}
+
+/* Reads a line, acts on a refusal, and returns what the call returned. An answered line has to be the copy's. */
+static ReadResult look(uint32_t line) {
+    uint8_t buffer[RANK_DATA_BYTES];
+    ReadResult read = rank_read(rank, memory, sizeof memory, line, buffer, sizeof buffer);
+    rank = read.rank;
+    if (read.refusal != RANK_OK) {
+        act_on(read.refusal, line);
+        return read;
+    }
+    expect(memcmp(buffer, copy[line], sizeof buffer) == 0, "the line that was written");
+    tell(line, &read);
+    return read;
+}
+
+static void damage(uint32_t line, uint32_t chip, const uint8_t pattern[RANK_PATTERN_BYTES]) {
+    Called called = rank_fault(rank, memory, sizeof memory, line, chip, pattern, RANK_PATTERN_BYTES);
+    rank = called.rank;
+    expect(called.refusal == RANK_OK, "fault");
+}
+
+/* Four patterns: word, highest byte first, then check byte. */
+static const uint8_t whole_chip[] = {0xde, 0xad, 0xbe, 0xef, 0xde, 0xad, 0xbe, 0xef, 0x5a};
+static const uint8_t one_bit[] = {0, 0, 0x10, 0, 0, 0, 0, 0, 0};
+static const uint8_t two_bits[] = {0, 0, 0x10, 0, 0, 0, 0x01, 0, 0};
+static const uint8_t codeword[] = {0, 0, 0, 0, 0, 0, 0, 1, 0x07};
+
+static void damage_that_is_undone(void) {
+    printf("\nDamage that is undone\n");
+    ReadResult read = look(2);
+    expect(read.refusal == RANK_OK && read.passes == 1 && read.flagged == 0, "a clean line");
+
+    damage(2, 5, whole_chip);
+    read = look(2);
+    expect(read.refusal == RANK_OK && read.passes == 2 && read.flagged == 1u << 5, "one chip rebuilt");
+
+    damage(2, 3, one_bit);
+    damage(2, 8, one_bit);
+    read = look(2);
+    expect(read.refusal == RANK_OK && read.passes == 3 && read.flagged == (1u << 3 | 1u << 8), "two chips mended");
+
+    /* Each visit repairs the memory too. */
+    read = look(2);
+    expect(read.refusal == RANK_OK && read.passes == 1 && rank.repairs == 3, "a repaired line");
+}
+
+/* Data that equals a chip's catch-word: the chip is sound, and the read finds that out. */
+static void collision(void) {
+    printf("\nData equal to a catch-word\n");
+    uint64_t word = rank.catch_words[4];
+    for (int i = 0; i < 8; i++)
+        copy[1][4 * 8 + i] = (uint8_t)(word >> (56 - 8 * i));
+    restore(1);
+    ReadResult read = look(1);
+    expect(read.refusal == RANK_OK && read.flagged == 0 && read.collisions == 1u << 4, "a collision");
+    expect(rank.catch_words[4] != word && rank.registers[4] == rank.catch_words[4], "a new catch-word");
+    read = look(1);
+    expect(read.refusal == RANK_OK && read.collisions == 0, "no collision with the new catch-word");
+
+    /* The caller too can give a chip another catch-word at any time. */
+    Called called = rank_renew(rank, 4, 0xbb67ae8584caa73b);
+    rank = called.rank;
+    expect(called.refusal == RANK_OK && rank.registers[4] == 0xbb67ae8584caa73b, "renew");
+}
+
+/* A patrol repairs lines before a second chip fails there. It counts lost lines and does not name them. */
+static void patrol(void) {
+    printf("\nPatrol\n");
+    damage(0, 0, whole_chip);
+    damage(1, 6, one_bit);
+    damage(1, 7, one_bit);
+    damage(3, 2, codeword);
+    PatrolResult result = rank_patrol(rank, memory, sizeof memory, 0, LINES);
+    rank = result.rank;
+    if (result.refusal != RANK_OK) {
+        act_on(result.refusal, 0);
+        return;
+    }
+    printf("lines visited: %u, lines refused: %u, words rewritten: %u\n", (unsigned)result.visited,
+           (unsigned)result.refused, (unsigned)result.rewritten);
+    expect(result.visited == LINES && result.refused == 1 && result.rewritten == 3, "patrol's counts");
+
+    /* Reads find the lost line. */
+    uint32_t lost = 0;
+    for (uint32_t line = 0; line < LINES; line++)
+        if (kind_of(look(line).refusal) == LINE_LOST)
+            lost++;
+    expect(lost == result.refused, "as many lost lines as the patrol refused");
+}
+
+static void damage_that_is_not_undone(void) {
+    printf("\nDamage that can't be undone\n");
+    damage(2, 0, two_bits);
+    damage(2, 1, one_bit);
+    ReadResult read = look(2);
+    expect(read.refusal == RANK_MENDED && read.passes == 3 && read.flagged == 3, "damage beyond mending");
+    read = look(2);
+    expect(read.refusal == RANK_OK && read.passes == 1, "a line written again");
+}
+
+static void refused_call(uint32_t refusal, uint32_t expected) {
+    expect(refusal == expected, "this refusal");
+    act_on(refusal, 0);
+}
+
+static void errors_in_the_call(void) {
+    printf("\nErrors in the call\n");
+    uint8_t buffer[RANK_DATA_BYTES];
+    uint8_t before[sizeof memory];
+    memcpy(before, memory, sizeof memory);
+
+    ReadResult read = rank_read(rank, memory, sizeof memory, LINES, buffer, sizeof buffer);
+    rank = read.rank;
+    refused_call(read.refusal, RANK_LINE);
+    read = rank_read(rank, memory, sizeof memory, 0, buffer, sizeof buffer - 1);
+    rank = read.rank;
+    refused_call(read.refusal, RANK_BUFFER);
+    Called called = rank_renew(rank, RANK_CHIPS, 0);
+    rank = called.rank;
+    refused_call(called.refusal, RANK_CHIP);
+    called = rank_fault(rank, memory, sizeof memory, 0, 0, one_bit, sizeof one_bit - 1);
+    rank = called.rank;
+    refused_call(called.refusal, RANK_PATTERN);
+    called = rank_write(rank, memory, sizeof memory - RANK_LINE_BYTES, 0, copy[0], RANK_DATA_BYTES);
+    rank = called.rank;
+    refused_call(called.refusal, RANK_MEMORY_LENGTH);
+
+    /* A refused boot returns a record of zeros. Here the rank lives on, so its record is kept. */
+    called = rank_boot(memory, sizeof memory, catch_words, RANK_CHIPS - 1);
+    expect(called.rank.lines == 0 && !called.rank.enable, "a record of zeros");
+    refused_call(called.refusal, RANK_CATCH_WORDS);
+    called = rank_boot(memory, sizeof memory - 1, catch_words, RANK_CHIPS);
+    refused_call(called.refusal, RANK_BOOT_MEMORY);
+    expect(memcmp(before, memory, sizeof memory) == 0, "a memory that no refused call has changed");
+}
+
+static void lost_record(void) {
+    printf("\nA record that no call returned\n");
+    memset(&rank, 0, sizeof rank);
+    expect(look(0).refusal == RANK_NOT_READY, "a record of zeros refused");
+    rank.registers[7]++;
+    expect(look(0).refusal == RANK_REGISTERS, "another register refused");
+    expect(look(3).refusal == RANK_OK, "a rank booted again");
+}
+
+int main(void) {
+    for (uint32_t line = 0; line < LINES; line++)
+        for (uint32_t i = 0; i < RANK_DATA_BYTES; i++)
+            copy[line][i] = (uint8_t)(line * RANK_DATA_BYTES + i);
+    boot();
+    for (uint32_t line = 0; line < LINES; line++)
+        restore(line);
+    damage_that_is_undone();
+    collision();
+    patrol();
+    damage_that_is_not_undone();
+    errors_in_the_call();
+    lost_record();
+    return 0;
+}

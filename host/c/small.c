@@ -1,0 +1,31 @@
+/* Boot, write, damage, read: the smallest use of the library. */
+#include "rank.h"
+#include <stdio.h>
+
+static uint8_t memory[4 * RANK_LINE_BYTES];
+
+static int refused(uint32_t refusal) {
+    printf("refused with %u\n", (unsigned)refusal);
+    return 1;
+}
+
+int main(void) {
+    const uint64_t catch_words[RANK_CHIPS] = {11, 22, 33, 44, 55, 66, 77, 88, 99}; /* better: random numbers */
+    const uint8_t data[RANK_DATA_BYTES] = "page 7 lies in block 3";
+    const uint8_t damage[RANK_PATTERN_BYTES] = {0xff, 0x0f};
+    uint8_t buffer[RANK_DATA_BYTES];
+
+    Called called = rank_boot(memory, sizeof memory, catch_words, RANK_CHIPS);
+    if (called.refusal == RANK_OK)
+        called = rank_write(called.rank, memory, sizeof memory, 2, data, sizeof data);
+    if (called.refusal == RANK_OK)
+        called = rank_fault(called.rank, memory, sizeof memory, 2, 1, damage, sizeof damage);
+    if (called.refusal != RANK_OK)
+        return refused(called.refusal);
+
+    ReadResult read = rank_read(called.rank, memory, sizeof memory, 2, buffer, sizeof buffer);
+    if (read.refusal != RANK_OK)
+        return refused(read.refusal);
+    printf("%.64s (chips repaired: mask %03x)\n", (const char *)buffer, (unsigned)read.flagged);
+    return 0; /* the next call takes read.rank */
+}

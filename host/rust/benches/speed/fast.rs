@@ -1,0 +1,463 @@
+//! The six calls in safe Rust written for speed, with the same results as the proved library on every input.
+//!
+//! Words are kept as they stand in the memory, lowest address first, and never swapped: the xor, the remainders and the
+//! copies work on them as they are, and the catch-words are swapped instead. The remainders of eight words are computed
+//! at once in 16-bit lanes, two `u64` abreast, which the compiler puts in SSE2 registers.
+//!
+//! The calls are `extern "C"`, so that a caller hands over the record in the same way on both sides.
+#![allow(improper_ctypes_definitions)]
+use lemtskavo::ffi::{Called, PatrolResult, Rank, ReadResult};
+use std::ops::{BitAnd, BitOr, BitXor, Shl, Shr};
+
+const LINE_BYTES: usize = 81;
+const LINE_LIMIT: u32 = 65_536;
+const STEP: u64 = 0x9e37_79b9_7f4a_7c15;
+const ZERO: Rank = Rank { lines: 0, enable: false, catch_words: [0; 9], registers: [0; 9], repairs: 0 };
+
+type Line = [u8; LINE_BYTES];
+
+/// Clears the memory and gives its record.
+#[inline(never)]
+pub extern "C" fn boot(memory: &mut [u8], catch_words: &[u64]) -> Called {
+    let lines = memory.len() / LINE_BYTES;
+    if memory.is_empty() || !memory.len().is_multiple_of(LINE_BYTES) || lines > LINE_LIMIT as usize {
+        return Called { refusal: 11, rank: ZERO };
+    }
+    let Ok(catch_words) = <[u64; 9]>::try_from(catch_words) else {
+        return Called { refusal: 5, rank: ZERO };
+    };
+    memory.fill(0);
+    Called { refusal: 0, rank: Rank { lines: lines as u32, enable: true, catch_words, registers: catch_words, repairs: 0 } }
+}
+
+/// Lays the nine codewords of 64 bytes.
+#[inline(never)]
+pub extern "C" fn write(rank: Rank, memory: &mut [u8], line: u32, data: &[u8]) -> Called {
+    let refusal = refused_line(&rank, memory.len(), line);
+    if refusal != 0 {
+        return Called { refusal, rank };
+    }
+    let Ok(data) = <&[u8; 64]>::try_from(data) else {
+        return Called { refusal: 2, rank };
+    };
+    lay(line_of(memory, line), data);
+    Called { refusal: 0, rank }
+}
+
+/// Visits a line and puts its 64 bytes in the buffer.
+#[inline(never)]
+pub extern "C" fn read(rank: Rank, memory: &mut [u8], line: u32, buffer: &mut [u8]) -> ReadResult {
+    let refusal = refused_line(&rank, memory.len(), line);
+    if refusal != 0 {
+        return ReadResult { refusal, passes: 0, flagged: 0, collisions: 0, rank };
+    }
+    let Ok(buffer) = <&mut [u8; 64]>::try_from(buffer) else {
+        return ReadResult { refusal: 2, passes: 0, flagged: 0, collisions: 0, rank };
+    };
+    let line = line_of(memory, line);
+    let scan = Scan::of(line, &swapped(&rank));
+    if scan.clean() {
+        take(line, buffer);
+        return ReadResult { refusal: 0, passes: 1, flagged: 0, collisions: 0, rank };
+    }
+    let Visit { refusal, passes, flagged, collisions } = visit(line, &rank.catch_words, scan);
+    let mut answer = ReadResult { refusal, passes, flagged, collisions, rank };
+    if refusal == 0 {
+        settle(&mut answer.rank, flagged, collisions);
+        take(line, buffer);
+    }
+    answer
+}
+
+/// Visits `budget` lines from `first` on, or as many as there are.
+#[inline(never)]
+pub extern "C" fn patrol(rank: Rank, memory: &mut [u8], first: u32, budget: u32) -> PatrolResult {
+    let refusal = refused_line(&rank, memory.len(), first);
+    if refusal != 0 {
+        return PatrolResult { refusal, visited: 0, refused: 0, rewritten: 0, rank };
+    }
+    let visited = budget.min(rank.lines - first);
+    let mut answer = PatrolResult { refusal: 0, visited, refused: 0, rewritten: 0, rank };
+    let mut catch_words = swapped(&rank);
+    let start = LINE_BYTES * first as usize;
+    for line in memory[start..start + LINE_BYTES * visited as usize].as_chunks_mut().0 {
+        let scan = Scan::of(line, &catch_words);
+        if scan.clean() {
+            continue;
+        }
+        let visit = visit(line, &answer.rank.catch_words, scan);
+        if visit.refusal != 0 {
+            answer.refused += 1;
+            continue;
+        }
+        answer.rewritten += visit.flagged.count_ones();
+        settle(&mut answer.rank, visit.flagged, visit.collisions);
+        catch_words = swapped(&answer.rank);
+    }
+    answer
+}
+
+/// Gives one chip a catch-word, in both copies.
+#[inline(never)]
+pub extern "C" fn renew(rank: Rank, chip: u32, catch_word: u64) -> Called {
+    let refusal = refused_record(&rank);
+    if refusal != 0 {
+        return Called { refusal, rank };
+    }
+    if chip >= 9 {
+        return Called { refusal: 3, rank };
+    }
+    let mut rank = rank;
+    rank.catch_words[chip as usize] = catch_word;
+    rank.registers[chip as usize] = catch_word;
+    Called { refusal: 0, rank }
+}
+
+/// Xors nine bytes into one chip of a line.
+#[inline(never)]
+pub extern "C" fn fault(rank: Rank, memory: &mut [u8], line: u32, chip: u32, pattern: &[u8]) -> Called {
+    let refusal = refused_line(&rank, memory.len(), line);
+    if refusal != 0 {
+        return Called { refusal, rank };
+    }
+    if chip >= 9 {
+        return Called { refusal: 3, rank };
+    }
+    let Ok(pattern) = <&[u8; 9]>::try_from(pattern) else {
+        return Called { refusal: 4, rank };
+    };
+    let at = 9 * chip as usize;
+    for (byte, change) in line_of(memory, line)[at..at + 9].iter_mut().zip(pattern) {
+        *byte ^= change;
+    }
+    Called { refusal: 0, rank }
+}
+
+/// Refusals 12 and 14: those of a call without a memory.
+#[inline(always)]
+fn refused_record(rank: &Rank) -> u32 {
+    refused_line(rank, LINE_BYTES * rank.lines as usize, 0)
+}
+
+/// Refusals 12, 13, 14 and 1, in this order.
+#[inline(always)]
+fn refused_line(rank: &Rank, length: usize, line: u32) -> u32 {
+    if !rank.enable || rank.lines.wrapping_sub(1) >= LINE_LIMIT {
+        return 12;
+    }
+    if length != LINE_BYTES * rank.lines as usize {
+        return 13;
+    }
+    // One by one: a wider load would have to wait for the stores of the record that the caller has just made.
+    for k in 0..9 {
+        if rank.registers[k] != rank.catch_words[k] {
+            return 14;
+        }
+    }
+    if line >= rank.lines {
+        return 1;
+    }
+    0
+}
+
+#[inline(always)]
+fn line_of(memory: &mut [u8], line: u32) -> &mut Line {
+    memory[LINE_BYTES * line as usize..].first_chunk_mut().unwrap()
+}
+
+/// A chip's word as it stands in the memory.
+#[inline(always)]
+fn word(line: &Line, chip: usize) -> u64 {
+    u64::from_le_bytes(*line[9 * chip..].first_chunk().unwrap())
+}
+
+#[inline(always)]
+fn set_word(line: &mut Line, chip: usize, word: u64) {
+    line[9 * chip..9 * chip + 8].copy_from_slice(&word.to_le_bytes());
+}
+
+/// The catch-words as words stand in the memory.
+#[inline(always)]
+fn swapped(rank: &Rank) -> [u64; 9] {
+    rank.catch_words.map(u64::swap_bytes)
+}
+
+/// What one look at a line gives: the xor of its nine words and of its nine check bytes, the syndromes of chips 0 to 7,
+/// byte K for chip K, and whether a word equals its catch-word.
+struct Scan {
+    words_xor: u64,
+    checks_xor: u8,
+    syndromes: u64,
+    matched: bool,
+}
+
+impl Scan {
+    #[inline(always)]
+    fn of(line: &Line, catch_words: &[u64; 9]) -> Scan {
+        let (mut words_xor, mut checks_xor, mut matched) = (0, 0, false);
+        for k in 0..9 {
+            words_xor ^= word(line, k);
+            checks_xor ^= line[9 * k + 8];
+            matched |= word(line, k) == catch_words[k];
+        }
+        let mut lanes = [0; 2];
+        syndromes(line, &mut lanes);
+        Scan { words_xor, checks_xor, syndromes: lanes[0] | lanes[1] << 8, matched }
+    }
+
+    /// Nine codewords that xor to zero, none a catch-word. Chip 8 holds a codeword by linearity.
+    #[inline(always)]
+    fn clean(&self) -> bool {
+        self.syndromes | self.words_xor | u64::from(self.checks_xor) | u64::from(self.matched) == 0
+    }
+}
+
+#[inline(always)]
+fn take(line: &Line, buffer: &mut [u8; 64]) {
+    for k in 0..8 {
+        buffer[8 * k..8 * k + 8].copy_from_slice(&line[9 * k..9 * k + 8]);
+    }
+}
+
+#[inline(always)]
+fn lay(line: &mut Line, data: &[u8; 64]) {
+    let mut lanes = [0; 2];
+    check_bytes(data, &mut lanes);
+    let asked = lanes[0] | lanes[1] << 8;
+    let mut sum = 0;
+    for k in 0..8 {
+        let word = u64::from_le_bytes(*data[8 * k..].first_chunk().unwrap());
+        set_word(line, k, word);
+        line[9 * k + 8] = (asked >> (8 * k)) as u8;
+        sum ^= word;
+    }
+    set_word(line, 8, sum);
+    line[80] = bytes_xor(asked);
+}
+
+fn bytes_xor(bytes: u64) -> u8 {
+    let bytes = bytes ^ bytes >> 32;
+    let bytes = bytes ^ bytes >> 16;
+    (bytes ^ bytes >> 8) as u8
+}
+
+/// What a visit went through.
+#[derive(Clone, Copy)]
+struct Visit {
+    refusal: u32,
+    passes: u32,
+    flagged: u32,
+    collisions: u32,
+}
+
+/// A visit to a line that is not clean. An answered line is repaired.
+#[inline(never)]
+fn visit(line: &mut Line, catch_words: &[u64; 9], scan: Scan) -> Visit {
+    let sum = scan.words_xor;
+    let sum_asks = check_byte(sum);
+    // The syndromes of all nine xor to that of the sums.
+    let last = bytes_xor(scan.syndromes) ^ sum_asks ^ scan.checks_xor;
+    let syndrome = |chip: usize| if chip == 8 { last } else { (scan.syndromes >> (8 * chip)) as u8 };
+
+    let flagged = nonzero_bytes(scan.syndromes) | u32::from(last != 0) << 8;
+    let mut matches = 0;
+    for (k, catch_word) in catch_words.iter().enumerate() {
+        matches |= u32::from(word(line, k).swap_bytes() == *catch_word) << k;
+    }
+    let collisions = matches & !flagged;
+    let seen = |refusal, passes| Visit { refusal, passes, flagged, collisions };
+
+    if flagged == 0 {
+        let passes = if collisions == 0 { 1 } else { 2 };
+        return seen(if sum == 0 { 0 } else { 20 }, passes);
+    }
+    if flagged & (flagged - 1) == 0 {
+        let chip = flagged.trailing_zeros() as usize;
+        set_word(line, chip, word(line, chip) ^ sum);
+        line[9 * chip + 8] ^= syndrome(chip) ^ sum_asks;
+        return seen(0, 2);
+    }
+    let mut left = sum;
+    for chip in chips(flagged) {
+        left ^= MENDING[syndrome(chip) as usize];
+    }
+    if left != 0 {
+        return seen(21, 3);
+    }
+    for chip in chips(flagged) {
+        let change = MENDING[syndrome(chip) as usize];
+        set_word(line, chip, word(line, chip) ^ change);
+        // With a bit of the word inverted the check byte is right; otherwise it is what makes the syndrome zero.
+        line[9 * chip + 8] ^= if change == 0 { syndrome(chip) } else { 0 };
+    }
+    seen(0, 3)
+}
+
+/// The chips of a mask, upwards.
+#[inline(always)]
+fn chips(mask: u32) -> impl Iterator<Item = usize> {
+    let mut rest = mask;
+    std::iter::from_fn(move || {
+        if rest == 0 {
+            return None;
+        }
+        let chip = rest.trailing_zeros() as usize;
+        rest &= rest - 1;
+        Some(chip)
+    })
+}
+
+/// Bit K set where byte K is not zero.
+#[inline(always)]
+fn nonzero_bytes(bytes: u64) -> u32 {
+    const LOW: u64 = 0x7f7f_7f7f_7f7f_7f7f;
+    let high = (((bytes & LOW) + LOW) | bytes) & !LOW;
+    // The eight bits meet in the top byte; no two products overlap.
+    (high >> 7).wrapping_mul(0x0102_0408_1020_4080).wrapping_shr(56) as u32
+}
+
+/// The record after an answered visit: colliding chips' catch-words moved, repairs counted.
+#[inline(always)]
+fn settle(rank: &mut Rank, flagged: u32, collisions: u32) {
+    for chip in chips(collisions) {
+        let moved = rank.catch_words[chip].wrapping_add(STEP);
+        rank.catch_words[chip] = moved;
+        rank.registers[chip] = moved;
+    }
+    rank.repairs = rank.repairs.saturating_add(flagged.count_ones());
+}
+
+/// Two `u64` abreast: the compiler puts them in one register.
+#[derive(Clone, Copy)]
+struct Two(u64, u64);
+
+impl BitXor for Two {
+    type Output = Two;
+    #[inline(always)]
+    fn bitxor(self, other: Two) -> Two {
+        Two(self.0 ^ other.0, self.1 ^ other.1)
+    }
+}
+
+impl BitOr for Two {
+    type Output = Two;
+    #[inline(always)]
+    fn bitor(self, other: Two) -> Two {
+        Two(self.0 | other.0, self.1 | other.1)
+    }
+}
+
+impl BitAnd<u64> for Two {
+    type Output = Two;
+    #[inline(always)]
+    fn bitand(self, mask: u64) -> Two {
+        Two(self.0 & mask, self.1 & mask)
+    }
+}
+
+impl Shl<u32> for Two {
+    type Output = Two;
+    #[inline(always)]
+    fn shl(self, bits: u32) -> Two {
+        Two(self.0 << bits, self.1 << bits)
+    }
+}
+
+impl Shr<u32> for Two {
+    type Output = Two;
+    #[inline(always)]
+    fn shr(self, bits: u32) -> Two {
+        Two(self.0 >> bits, self.1 >> bits)
+    }
+}
+
+const BYTES: u64 = 0x00ff_00ff_00ff_00ff;
+const HALF: u64 = 0x0000_ffff_0000_ffff;
+const WORD: u64 = 0x0000_0000_ffff_ffff;
+
+/// The syndromes of chips 0 to 7 in 16-bit lanes, even chips and odd chips apart. It reads the eight bytes that end with the
+/// check byte; the word's first byte comes in by x^64 = x^4 + x + 1. A function of its own that stores its results side by
+/// side is what the compiler turns into SSE2.
+#[inline(never)]
+fn syndromes(line: &Line, lanes: &mut [u64; 2]) {
+    let at = |k: usize| u64::from_le_bytes(*line[9 * k + 1..].first_chunk().unwrap());
+    let byte = |k: usize| u64::from(line[9 * k]);
+    let first = Two(byte(0) | byte(2) << 16 | byte(4) << 32 | byte(6) << 48, byte(1) | byte(3) << 16 | byte(5) << 32 | byte(7) << 48);
+    let p = halves(Two(at(0), at(1)), Two(at(4), at(5)));
+    let q = halves(Two(at(2), at(3)), Two(at(6), at(7)));
+    let Two(even, odd) = eights(quarters(p, q) ^ first ^ first << 1 ^ first << 4);
+    lanes[0] = even;
+    lanes[1] = odd;
+}
+
+/// The check bytes of a line's eight words in 16-bit lanes, even chips and odd chips apart.
+#[inline(never)]
+fn check_bytes(data: &[u8; 64], lanes: &mut [u64; 2]) {
+    let at = |k: usize| u64::from_le_bytes(*data[8 * k..].first_chunk().unwrap());
+    let p = halves(Two(at(0), at(1)), Two(at(4), at(5)));
+    let q = halves(Two(at(2), at(3)), Two(at(6), at(7)));
+    let Two(even, odd) = checks(quarters(p, q));
+    lanes[0] = even;
+    lanes[1] = odd;
+}
+
+/// Each pair of bytes to ten bits in its lane: x^8 = x^2 + x + 1.
+#[inline(always)]
+fn pairs(word: Two) -> Two {
+    let first = word & BYTES;
+    first ^ first << 1 ^ first << 2 ^ (word >> 8 & BYTES)
+}
+
+/// Two words to fourteen bits in each lane: x^32 = x^4 + x^2 + x.
+#[inline(always)]
+fn halves(a: Two, b: Two) -> Two {
+    let (a, b) = (pairs(a), pairs(b));
+    let first = a & WORD | b << 32;
+    let second = a >> 32 | b & !WORD;
+    first << 1 ^ first << 2 ^ first << 4 ^ second
+}
+
+/// Four words to fourteen bits in each lane, one word a lane: x^16 = x^4 + x^2 + 1.
+#[inline(always)]
+fn quarters(p: Two, q: Two) -> Two {
+    let first = eights(p & HALF | (q & HALF) << 16);
+    let second = p >> 16 & HALF | q & !HALF;
+    first ^ first << 2 ^ first << 4 ^ second
+}
+
+/// The check byte in each lane: the lane's remainder times x^8.
+#[inline(always)]
+fn checks(v: Two) -> Two {
+    let (high, low) = (v >> 8 & BYTES, v & BYTES);
+    eights(high ^ high << 2 ^ high << 4 ^ low ^ low << 1 ^ low << 2)
+}
+
+/// At most fourteen bits in each lane to eight.
+#[inline(always)]
+fn eights(v: Two) -> Two {
+    let high = v >> 8 & BYTES;
+    v & BYTES ^ high ^ high << 1 ^ high << 2
+}
+
+/// The check byte of one word.
+fn check_byte(word: u64) -> u8 {
+    checks(quarters(halves(Two(word, 0), Two(0, 0)), Two(0, 0))).0 as u8
+}
+
+/// By syndrome: the change to the word that mending makes, zero where it makes none.
+static MENDING: [u64; 256] = mending();
+
+const fn mending() -> [u64; 256] {
+    let mut changes = [0; 256];
+    let mut syndrome: usize = 7;
+    let mut bit = 0;
+    while bit < 64 {
+        changes[syndrome] = (1u64 << bit).swap_bytes();
+        syndrome <<= 1;
+        if syndrome > 255 {
+            syndrome ^= 0x107;
+        }
+        bit += 1;
+    }
+    changes
+}
