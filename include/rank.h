@@ -23,6 +23,22 @@
  *   Nothing else writes either of them, except damage to the memory, which counts as rank_fault does.
  * - One thread at a time works on one rank and its memory. Different ranks do not meet: the library has no state.
  *
+ * Tasks
+ *
+ * Up to eight tasks of the firmware, 0 to 7, use a rank; which number is whose is the firmware's choice. A read or a
+ * patrol names the task that it is made for, and the words that the call repairs are added to that task's total and to
+ * no other. Which of the eight is named changes nothing else. Any other number is refused with 31. All tasks share the
+ * one record: hold a lock from taking it until the one returned is stored.
+ *
+ * A total is 0 after boot, and no other call sets it back; for a span of time take the difference of two records. A
+ * total at 4,294,967,295 has stopped; the others go on. While none has stopped, the eight add to all words repaired
+ * since boot; that sum can pass 32 bits, so add them in a uint64_t.
+ *
+ * In earlier versions `repairs` was one total, the record had 160 bytes in place of 184, and rank_read and rank_patrol
+ * had no task. Compile every caller again with this header: an object made with the old one still links, and fails at
+ * run time. Look at each use of `repairs` too: it is an array now, and `a.repairs != b.repairs` compares addresses. A
+ * caller that names task 0 everywhere finds the former total in repairs[0].
+ *
  * Refusals
  *
  * `refusal` is 0 if the call was carried out, else a number of RankRefusal. If several conditions hold, the one that
@@ -45,6 +61,7 @@ extern "C" {
 #define RANK_CHIPS 9          /* chips of a rank, so also its catch-words */
 #define RANK_PATTERN_BYTES 9  /* a pattern: eight bytes of the word, highest first, then the check byte */
 #define RANK_LINE_LIMIT 65536 /* the most lines that a rank can have */
+#define RANK_TASK_LIMIT 8     /* tasks are numbered from 0 to 7 */
 
 enum RankRefusal {
     RANK_OK = 0, /* not refused */
@@ -55,6 +72,7 @@ enum RankRefusal {
     RANK_CHIP = 3,        /* the chip is not below 9 */
     RANK_PATTERN = 4,     /* the pattern is not 9 bytes */
     RANK_CATCH_WORDS = 5, /* there are not nine catch-words */
+    RANK_TASK = 31,       /* read and patrol: the task is not below 8 */
 
     /* Caused by the record or the memory. */
     RANK_BOOT_MEMORY = 11,   /* boot: the memory is empty, no multiple of 81 bytes, or over 65,536 lines */
@@ -73,7 +91,7 @@ typedef struct Rank {
     bool enable;                      /* the Enable bit: bad words are replaced by catch-words */
     uint64_t catch_words[RANK_CHIPS]; /* the catch-words as the controller knows them */
     uint64_t registers[RANK_CHIPS];   /* the catch-word registers as the chips hold them */
-    uint32_t repairs;                 /* words repaired since boot; stays at 4,294,967,295 once there */
+    uint32_t repairs[RANK_TASK_LIMIT]; /* words repaired since boot, by task; each stays at 4,294,967,295 once there */
 } Rank;
 
 /* What boot, write, renew and fault return. */
@@ -104,7 +122,7 @@ typedef struct PatrolResult {
  * Makes a rank of a memory and nine catch-words, which may be any values; random ones meet stored data least often.
  * Refusals: 11, 5.
  * Clears the memory, so that every line reads as 64 zeros. The record has N = memory_len / 81, Enable set, the
- * catch-words in both copies and a repair total of 0. A refused boot changes nothing: if the memory held a rank, it
+ * catch-words in both copies and every repair total 0. A refused boot changes nothing: if the memory held a rank, it
  * still does, with the record that it had.
  */
 Called rank_boot(uint8_t *memory, size_t memory_len, const uint64_t *catch_words, size_t count);
@@ -117,23 +135,26 @@ Called rank_boot(uint8_t *memory, size_t memory_len, const uint64_t *catch_words
 Called rank_write(Rank rank, uint8_t *memory, size_t memory_len, uint32_t line, const uint8_t *data, size_t data_len);
 
 /*
- * Visits a line and puts its 64 bytes in the buffer.
- * Refusals: 12, 13, 14, 1, 2, then 20 or 21.
+ * Visits a line for a task and puts its 64 bytes in the buffer. The task stands before the line.
+ * Refusals: 12, 13, 14, 31, 1, 2, then 20 or 21.
  * One flagged chip is rebuilt from the other eight; two or more are mended by their own codes. Each flagged chip gets
- * the word so found and its check byte in the memory, and the repair total grows by their number. Each colliding chip
- * gets another catch-word: 9E3779B97F4A7C15h is added to both copies, modulo 2^64.
+ * the word so found and its check byte in the memory, and the task's repair total grows by their number. Each colliding
+ * chip gets another catch-word: 9E3779B97F4A7C15h is added to both copies, modulo 2^64.
  * After 20 or 21 the memory is as before, so the line is refused again until it is written.
  */
-ReadResult rank_read(Rank rank, uint8_t *memory, size_t memory_len, uint32_t line, uint8_t *buffer, size_t buffer_len);
+ReadResult rank_read(Rank rank, uint8_t *memory, size_t memory_len, uint32_t task, uint32_t line, uint8_t *buffer,
+                     size_t buffer_len);
 
 /*
- * Visits lines from `first` upwards: `budget` of them, or as many as there are up to line N - 1.
- * Refusals: 12, 13, 14, 1.
- * Each line is visited as by a read: its repairs, the repair total and the catch-words of colliding chips change
- * likewise. A line that a read would refuse is counted, left as it is, and doesn't stop the patrol; `refused` above 0 is
- * no refusal of the call.
+ * Visits lines for a task from `first` upwards: `budget` of them, or as many as there are up to line N - 1. The task
+ * stands before the first line.
+ * Refusals: 12, 13, 14, 31, 1.
+ * Each line is visited as by a read for that task: its repairs, the task's repair total and the catch-words of
+ * colliding chips change likewise. A line that a read would refuse is counted, left as it is, and doesn't stop the
+ * patrol; `refused` above 0 is no refusal of the call.
  */
-PatrolResult rank_patrol(Rank rank, uint8_t *memory, size_t memory_len, uint32_t first, uint32_t budget);
+PatrolResult rank_patrol(Rank rank, uint8_t *memory, size_t memory_len, uint32_t task, uint32_t first,
+                         uint32_t budget);
 
 /*
  * Gives one chip a catch-word of any value, in both copies. It needs no memory.
@@ -162,25 +183,25 @@ Called rank_fault(Rank rank, uint8_t *memory, size_t memory_len, uint32_t line, 
 
 RANK_ASSERT(sizeof(bool) == 1);
 
-RANK_ASSERT(sizeof(Rank) == 160);
+RANK_ASSERT(sizeof(Rank) == 184);
 RANK_ASSERT(offsetof(Rank, lines) == 0);
 RANK_ASSERT(offsetof(Rank, enable) == 4);
 RANK_ASSERT(offsetof(Rank, catch_words) == 8);
 RANK_ASSERT(offsetof(Rank, registers) == 80);
 RANK_ASSERT(offsetof(Rank, repairs) == 152);
 
-RANK_ASSERT(sizeof(Called) == 168);
+RANK_ASSERT(sizeof(Called) == 192);
 RANK_ASSERT(offsetof(Called, refusal) == 0);
 RANK_ASSERT(offsetof(Called, rank) == 8);
 
-RANK_ASSERT(sizeof(ReadResult) == 176);
+RANK_ASSERT(sizeof(ReadResult) == 200);
 RANK_ASSERT(offsetof(ReadResult, refusal) == 0);
 RANK_ASSERT(offsetof(ReadResult, passes) == 4);
 RANK_ASSERT(offsetof(ReadResult, flagged) == 8);
 RANK_ASSERT(offsetof(ReadResult, collisions) == 12);
 RANK_ASSERT(offsetof(ReadResult, rank) == 16);
 
-RANK_ASSERT(sizeof(PatrolResult) == 176);
+RANK_ASSERT(sizeof(PatrolResult) == 200);
 RANK_ASSERT(offsetof(PatrolResult, refusal) == 0);
 RANK_ASSERT(offsetof(PatrolResult, visited) == 4);
 RANK_ASSERT(offsetof(PatrolResult, refused) == 8);

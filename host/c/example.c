@@ -1,7 +1,7 @@
 /*
- * A mapping table in a rank of four lines, with a copy of it elsewhere. Each step makes a call, looks at the refusal
- * and keeps the returned record. The program checks what it finds and ends with status 1 if something is not as
- * expected.
+ * A mapping table in a rank of four lines, with a copy of it elsewhere. Two tasks use it: one reads the table, the
+ * other patrols. Each step makes a call, looks at the refusal and keeps the returned record. The program checks what it
+ * finds and ends with status 1 if something is not as expected.
  */
 #include "rank.h"
 
@@ -10,6 +10,9 @@
 #include <string.h>
 
 #define LINES 4
+
+/* Which numbers the tasks have is the firmware's choice. The record counts repairs for each. */
+enum { MAP_TASK = 0, PATROL_TASK = 1 };
 
 /* What a refusal asks of the caller. */
 typedef enum { FINE, CALLER_ERROR, RANK_LOST, LINE_LOST } Kind;
@@ -42,6 +45,7 @@ static const char *refusal_words(uint32_t refusal) {
     case RANK_CHIP: return "the rank has no such chip";
     case RANK_PATTERN: return "the pattern is not 9 bytes";
     case RANK_CATCH_WORDS: return "there are not nine catch-words";
+    case RANK_TASK: return "there are no tasks but 0 to 7";
     case RANK_BOOT_MEMORY: return "the memory is empty, no multiple of 81 bytes, or over 65,536 lines";
     case RANK_NOT_READY: return "the record is not that of a booted rank";
     case RANK_MEMORY_LENGTH: return "the memory has not the length that it had at boot";
@@ -129,10 +133,13 @@ static void tell(uint32_t line, const ReadResult *read) {
     printf(" (passes: %u)\n", (unsigned)read->passes);
 }
 
-/* Reads a line, acts on a refusal, and returns what the call returned. An answered line has to be the copy's. */
+/*
+ * Reads a line for the map task, acts on a refusal, and returns what the call returned. An answered line has to be the
+ * copy's.
+ */
 static ReadResult look(uint32_t line) {
     uint8_t buffer[RANK_DATA_BYTES];
-    ReadResult read = rank_read(rank, memory, sizeof memory, line, buffer, sizeof buffer);
+    ReadResult read = rank_read(rank, memory, sizeof memory, MAP_TASK, line, buffer, sizeof buffer);
     rank = read.rank;
     if (read.refusal != RANK_OK) {
         act_on(read.refusal, line);
@@ -171,7 +178,7 @@ static void damage_that_is_undone(void) {
 
     /* Each visit repairs the memory too. */
     read = look(2);
-    expect(read.refusal == RANK_OK && read.passes == 1 && rank.repairs == 3, "a repaired line");
+    expect(read.refusal == RANK_OK && read.passes == 1 && rank.repairs[MAP_TASK] == 3, "a repaired line");
 }
 
 /* Data that equals a chip's catch-word: the chip is sound, and the read finds that out. */
@@ -200,7 +207,7 @@ static void patrol(void) {
     damage(1, 6, one_bit);
     damage(1, 7, one_bit);
     damage(3, 2, codeword);
-    PatrolResult result = rank_patrol(rank, memory, sizeof memory, 0, LINES);
+    PatrolResult result = rank_patrol(rank, memory, sizeof memory, PATROL_TASK, 0, LINES);
     rank = result.rank;
     if (result.refusal != RANK_OK) {
         act_on(result.refusal, 0);
@@ -216,6 +223,17 @@ static void patrol(void) {
         if (kind_of(look(line).refusal) == LINE_LOST)
             lost++;
     expect(lost == result.refused, "as many lost lines as the patrol refused");
+}
+
+/* Each task has its own total. While none has stopped they add to all words repaired since boot, which can pass 32 bits. */
+static void repairs_by_task(void) {
+    printf("\nRepairs by task\n");
+    uint64_t sum = 0;
+    for (uint32_t task = 0; task < RANK_TASK_LIMIT; task++)
+        sum += rank.repairs[task];
+    printf("words repaired for the map task: %u, for the patrol task: %u, in all: %llu\n",
+           (unsigned)rank.repairs[MAP_TASK], (unsigned)rank.repairs[PATROL_TASK], (unsigned long long)sum);
+    expect(rank.repairs[MAP_TASK] == 3 && rank.repairs[PATROL_TASK] == 3 && sum == 6, "the repairs of each task");
 }
 
 static void damage_that_is_not_undone(void) {
@@ -239,10 +257,13 @@ static void errors_in_the_call(void) {
     uint8_t before[sizeof memory];
     memcpy(before, memory, sizeof memory);
 
-    ReadResult read = rank_read(rank, memory, sizeof memory, LINES, buffer, sizeof buffer);
+    ReadResult read = rank_read(rank, memory, sizeof memory, RANK_TASK_LIMIT, 0, buffer, sizeof buffer);
+    rank = read.rank;
+    refused_call(read.refusal, RANK_TASK);
+    read = rank_read(rank, memory, sizeof memory, MAP_TASK, LINES, buffer, sizeof buffer);
     rank = read.rank;
     refused_call(read.refusal, RANK_LINE);
-    read = rank_read(rank, memory, sizeof memory, 0, buffer, sizeof buffer - 1);
+    read = rank_read(rank, memory, sizeof memory, MAP_TASK, 0, buffer, sizeof buffer - 1);
     rank = read.rank;
     refused_call(read.refusal, RANK_BUFFER);
     Called called = rank_renew(rank, RANK_CHIPS, 0);
@@ -283,6 +304,7 @@ int main(void) {
     damage_that_is_undone();
     collision();
     patrol();
+    repairs_by_task();
     damage_that_is_not_undone();
     errors_in_the_call();
     lost_record();

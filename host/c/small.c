@@ -2,6 +2,8 @@
 #include "rank.h"
 #include <stdio.h>
 
+#define MAP_TASK 3 /* this firmware's number for the task that reads the map, 0 to 7 */
+
 static uint8_t memory[4 * RANK_LINE_BYTES];
 
 static int refused(uint32_t refusal) {
@@ -23,9 +25,10 @@ int main(void) {
     if (called.refusal != RANK_OK)
         return refused(called.refusal);
 
-    ReadResult read = rank_read(called.rank, memory, sizeof memory, 2, buffer, sizeof buffer);
+    ReadResult read = rank_read(called.rank, memory, sizeof memory, MAP_TASK, 2, buffer, sizeof buffer);
     if (read.refusal != RANK_OK)
         return refused(read.refusal);
     printf("%.64s (chips repaired: mask %03x)\n", (const char *)buffer, (unsigned)read.flagged);
+    printf("words repaired for the map task: %u\n", (unsigned)read.rank.repairs[MAP_TASK]);
     return 0; /* the next call takes read.rank */
 }

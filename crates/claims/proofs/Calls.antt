@@ -30,11 +30,11 @@ unfoldable pub deviceBy : ℕ → Device → Call → Did Device Seen
 deviceBy n d (write l b) =
     let x = writeBy n (d .rank) (d .memory) l b in
     record { out = seenBy (x .result .refusal) done; now = record { rank = x .result .rank; memory = x .memory } }
-deviceBy n d (read l b) =
-    let x = readBy n (d .rank) (d .memory) l b in
+deviceBy n d (read task l b) =
+    let x = readBy n (d .rank) (d .memory) task l b in
     record { out = seenBy (x .result .refusal) (line (x .buffer)); now = record { rank = x .result .rank; memory = x .memory } }
-deviceBy n d (patrol first budget) =
-    let x = patrolBy n (d .rank) (d .memory) first budget in
+deviceBy n d (patrol task first budget) =
+    let x = patrolBy n (d .rank) (d .memory) task first budget in
     record {
       out = seenBy (x .result .refusal) (counts (x .result .visited) (x .result .refused));
       now = record { rank = x .result .rank; memory = x .memory };
@@ -46,22 +46,28 @@ deviceBy n d (fault l k q) =
     let x = faultBy n (d .rank) (d .memory) l k q in
     record { out = seenBy (x .result .refusal) done; now = record { rank = x .result .rank; memory = x .memory } }
 
-device-by : (d : Device) (c : Call) → deviceCall d c ≡ deviceBy (deviceRefusal d c) d c
+pub device-by : (d : Device) (c : Call) → deviceCall d c ≡ deviceBy (deviceRefusal d c) d c
 unfolding deviceCall deviceBy writeOf readOf patrolOf renewOf faultOf
 device-by d (write l b) = refl
-device-by d (read l b) = refl
-device-by d (patrol first budget) = refl
+device-by d (read task l b) = refl
+device-by d (patrol task first budget) = refl
 device-by d (renew k w) = refl
 device-by d (fault l k q) = refl
 
 -- a refused call leaves the device as it was
-device-refused : (n : ℕ) (d : Device) (c : Call) → deviceBy (suc n) d c ≡ record { out = refused (suc n); now = d }
+pub device-refused : (n : ℕ) (d : Device) (c : Call) → deviceBy (suc n) d c ≡ record { out = refused (suc n); now = d }
 unfolding deviceBy writeBy readBy patrolBy renewBy faultBy
 device-refused n d (write l b) = refl
-device-refused n d (read l b) = refl
-device-refused n d (patrol first budget) = refl
+device-refused n d (read task l b) = refl
+device-refused n d (patrol task first budget) = refl
 device-refused n d (renew k w) = refl
 device-refused n d (fault l k q) = refl
+
+-- a patrol over the lines ls
+abbrev pub deviceLines : ℕ → Device → List ℕ → Did Device Seen
+deviceLines task d ls =
+    let vs : List Report = outs (visitOf task) d ls in
+    record { out = counts (length vs) (refusedIn vs); now = end (visitOf task) d ls }
 
 module _ (n : ℕ) where
   abbrev pub Alike : Did Device Seen → Did Plain Seen → Type 0
@@ -76,29 +82,25 @@ module _ (n : ℕ) where
   seen-read true p l found b e = ap line (e refl)
   seen-read false p l found b e = refl
 
-  read-same : (d : Device) (p : Plain) (l : ℕ) (b : List ℕ) → l < n → Related n d p → Premise (p .lineAt l)
-      → Alike (deviceBy zero d (read l b)) (plainVisit p l)
+  read-same : (d : Device) (p : Plain) (task l : ℕ) (b : List ℕ) → l < n → Related n d p → Premise (p .lineAt l)
+      → Alike (deviceBy zero d (read task l b)) (plainVisit p l)
   unfolding deviceBy readBy readResult plainVisit
-  read-same d p l b in-n r h =
+  read-same d p task l b in-n r h =
       let found : List ℕ = foundLine (lineAt (d .memory) l) (d .rank .«catch_words») in
       record {
         same =
-            ap (λ (o : Outcome). seenBy (refusalOf o) (line (bufferBy o found b))) (visited-outcome n d p l in-n r h)
-            ∙ seen-read (answers (p .lineAt l)) p l found b (visited-found n d p l in-n r h);
-        still = visited-still n d p l in-n r h;
+            ap (λ (o : Outcome). seenBy (refusalOf o) (line (bufferBy o found b))) (visited-outcome n task d p l in-n r h)
+            ∙ seen-read (answers (p .lineAt l)) p l found b (visited-found n task d p l in-n r h);
+        still = visited-still n task d p l in-n r h;
       }
 
-  -- a patrol over the lines ls
-  abbrev deviceLines : Device → List ℕ → Did Device Seen
-  deviceLines d ls = record { out = counts (length (outs visitOf d ls)) (refusedIn (outs visitOf d ls)); now = end visitOf d ls }
-
-  lines-same : (d : Device) (p : Plain) (ls : List ℕ) → All (λ l. l < n) ls → Related n d p → AtVisits p ls
-      → Alike (deviceLines d ls)
+  lines-same : (task : ℕ) (d : Device) (p : Plain) (ls : List ℕ) → All (λ l. l < n) ls → Related n d p → AtVisits p ls
+      → Alike (deviceLines task d ls)
       (record { out = counts (length (outs plainVisit p ls)) (sumOf P.isRefused (outs plainVisit p ls)); now = end plainVisit p ls })
   unfolding refusedIn
-  lines-same d p ls below r h =
-      let w = visits-same n ls d p below r h in
-      let vs : List Report = outs visitOf d ls in
+  lines-same task d p ls below r h =
+      let w = visits-same n task ls d p below r h in
+      let vs : List Report = outs (visitOf task) d ls in
       let ss : List Seen = outs plainVisit p ls in
       record {
         same =
@@ -123,17 +125,19 @@ module _ (n : ℕ) where
           holds = holds-laid n (d .memory) p l in-n (r .holds) (stored (lineWord b)) (whole b) (formed-whole b size t) (sym (laid-whole b));
         };
       }
-  accepted d p (read l b) t r e h =
-      let in-p : l < p .lines = ltb-true l (p .lines) (passed (ltb l (p .lines)) 0 (unless (eqb (length b) 64) 2 0) e .0) in
-      read-same d p l b (subst (λ (k : ℕ). l < k) (r .holds .lines) in-p) r (h .0)
-  accepted d p (patrol first budget) t r e h =
-      let in-p : first < p .lines = ltb-true first (p .lines) (passed (ltb first (p .lines)) 0 0 e .0) in
+  accepted d p (read task l b) t r e h =
+      let e₁ = passed (ltb task 8) 30 (unless (ltb l (p .lines)) 1 (unless (eqb (length b) 64) 2 0)) e .1 in
+      let in-p : l < p .lines = ltb-true l (p .lines) (passed (ltb l (p .lines)) 0 (unless (eqb (length b) 64) 2 0) e₁ .0) in
+      read-same d p task l b (subst (λ (k : ℕ). l < k) (r .holds .lines) in-p) r (h .0)
+  accepted d p (patrol task first budget) t r e h =
+      let e₁ = passed (ltb task 8) 30 (unless (ltb first (p .lines)) 1 0) e .1 in
+      let in-p : first < p .lines = ltb-true first (p .lines) (passed (ltb first (p .lines)) 0 0 e₁ .0) in
       let size : p .lines ≡ n = r .holds .lines in
       let ls : List ℕ = upFrom first (min budget (p .lines - first)) in
       subst
-      (λ (k : ℕ). Alike (deviceLines d (upFrom first (min budget (k - first)))) (plainAccepted p (patrol first budget)))
+      (λ (k : ℕ). Alike (deviceLines task d (upFrom first (min budget (k - first)))) (plainAccepted p (patrol task first budget)))
       (sym (r .ready .lines ∙ sym size))
-      (lines-same d p ls (below-upFrom n first (min budget (p .lines - first)) (omega arith)) r h)
+      (lines-same task d p ls (below-upFrom n first (min budget (p .lines - first)) (omega arith)) r h)
   accepted d p (renew k w) t r e h =
       record {
         same = refl;

@@ -12,8 +12,7 @@ use lib.Dec.{eqb, ltb}
 use lib.ListN.{length, replicate}
 use borrow.Author.Tests.{lt-ltb, eq-eqb, ne-eqb}
 use Rattle.code.specs.Code.{isCodeword}
-use Rattle.line.specs.Chips.{xorAll}
-use Rattle.line.specs.Visit.{passOne, passThree, flaggedChips, mustCancel, outcomeBy, outcomeOf, bytesBy, bytesAfter, reportOf, refusalOf}
+use Rattle.line.specs.Visit.{outcomeOf, bytesBy, bytesAfter, reportOf, refusalOf}
 use Rattle.line.specs.declared.Outcome.{Outcome}
 use Rattle.line.specs.declared.Outcome.the-variants.{Answered, Refused}
 use Rattle.line.specs.Cells.{numberOf, xorBytes}
@@ -22,7 +21,7 @@ use Rattle.rank.specs.declared.Rank.{Rank}
 use Rattle.rank.specs.Lines.{lineAt, withLine}
 use Rattle.rank.specs.LineLaws.{line-same}
 use Rattle.rank.specs.Record.{fresh, settled, settledBy}
-use Rattle.rank.specs.Refusals.{lineOut, bufferOut, chipOut, patternOut, catchWordsOut, memoryOut, notReady, memoryDiffers, registerDiffers, bootRefusal, bufferRefusal, patrolRefusal, renewRefusal, faultRefusal}
+use Rattle.rank.specs.Refusals.{lineOut, bufferOut, chipOut, patternOut, catchWordsOut, memoryOut, notReady, memoryDiffers, registerDiffers, taskOut, bootRefusal, writeRefusal, readRefusal, patrolRefusal, renewRefusal, faultRefusal}
 use Rattle.rank.specs.Calls.{visitOf, bootBy, bootOf, writeBy, writeOf, bufferBy, readResult, readBy, readOf, patrolLines, patrolBy, patrolOf, renewBy, renewOf, faultBy, faultOf, Device}
 use Rattle.rank.specs.Runs.{Did, outs, end}
 use Rattle.claims.specs.Lists.{All, Call, write, read, renew, fault, Typed, Seen, refused, done, line, counts, seenBy, deviceCall}
@@ -31,6 +30,7 @@ use Rattle.claims.specs.Plain.{Line, Plain, whole, hit, damage, answers,
 use Rattle.claims.specs.Premises.{Premise, PremiseBy, AtCalls}
 use Rattle.claims.specs.Claim.{bootedDevice, bootedPlain}
 use Rattle.claims.proofs.Related.{Related}
+use Rattle.claims.proofs.Visits.{visit-answered}
 use Rattle.claims.proofs.Refusals.{None, first-none}
 use Rattle.claims.proofs.Calls.{call-same}
 use Rattle.rank.specs.RefusalLaws.{boot-passed}
@@ -53,39 +53,39 @@ boot-refused-keeps m cws = by (bootRefusal m cws)
 pub write-refused-keeps : (r : Rank) (m : List ℕ) (l : ℕ) (b : List ℕ) → (writeOf r m l b .result .refusal ≡ 0 → ⊥)
     → (writeOf r m l b .memory ≡ m) × (writeOf r m l b .result .rank ≡ r)
 unfolding writeOf writeBy
-write-refused-keeps r m l b = by (bufferRefusal r m l b)
+write-refused-keeps r m l b = by (writeRefusal r m l b)
   where
     by : (n : ℕ) → (writeBy n r m l b .result .refusal ≡ 0 → ⊥) → (writeBy n r m l b .memory ≡ m) × (writeBy n r m l b .result .rank ≡ r)
     by zero h = absurd (h refl)
     by (suc n) h = (refl, refl)
 
 -- a refused read, by 20 and 21 too, leaves the memory and the buffer and returns the record given
-pub read-refused-keeps : (r : Rank) (m : List ℕ) (l : ℕ) (b : List ℕ) → (readOf r m l b .result .refusal ≡ 0 → ⊥)
-    → (readOf r m l b .memory ≡ m) × (readOf r m l b .buffer ≡ b) × (readOf r m l b .result .rank ≡ r)
+pub read-refused-keeps : (r : Rank) (m : List ℕ) (task l : ℕ) (b : List ℕ) → (readOf r m task l b .result .refusal ≡ 0 → ⊥)
+    → (readOf r m task l b .memory ≡ m) × (readOf r m task l b .buffer ≡ b) × (readOf r m task l b .result .rank ≡ r)
 unfolding readOf readBy readResult visitOf bufferBy reportOf settled settledBy bytesAfter bytesBy refusalOf
-read-refused-keeps r m l b = by (bufferRefusal r m l b)
+read-refused-keeps r m task l b = by (readRefusal r m task l b)
   where
     cws : List ℕ
     cws = r .«catch_words»
 
     visited : (o : Outcome) → (refusalOf o ≡ 0 → ⊥) → (found : List ℕ)
-        → (withLine m l (bytesBy o (lineAt m l) cws) ≡ m) × (bufferBy o found b ≡ b) × (settledBy o (reportOf (lineAt m l) cws) r ≡ r)
+        → (withLine m l (bytesBy o (lineAt m l) cws) ≡ m) × (bufferBy o found b ≡ b) × (settledBy task o (reportOf (lineAt m l) cws) r ≡ r)
     visited Answered h found = absurd (h refl)
     visited (Refused number) h found = (line-same m l, refl, refl)
 
-    by : (n : ℕ) → (readBy n r m l b .result .refusal ≡ 0 → ⊥)
-        → (readBy n r m l b .memory ≡ m) × (readBy n r m l b .buffer ≡ b) × (readBy n r m l b .result .rank ≡ r)
+    by : (n : ℕ) → (readBy n r m task l b .result .refusal ≡ 0 → ⊥)
+        → (readBy n r m task l b .memory ≡ m) × (readBy n r m task l b .buffer ≡ b) × (readBy n r m task l b .result .rank ≡ r)
     by zero h = visited (outcomeOf (lineAt m l) cws) h _
     by (suc n) h = (refl, refl, refl)
 
 -- a refused patrol leaves the memory and returns the record given
-pub patrol-refused-keeps : (r : Rank) (m : List ℕ) (first budget : ℕ) → (patrolOf r m first budget .result .refusal ≡ 0 → ⊥)
-    → (patrolOf r m first budget .memory ≡ m) × (patrolOf r m first budget .result .rank ≡ r)
+pub patrol-refused-keeps : (r : Rank) (m : List ℕ) (task first budget : ℕ) → (patrolOf r m task first budget .result .refusal ≡ 0 → ⊥)
+    → (patrolOf r m task first budget .memory ≡ m) × (patrolOf r m task first budget .result .rank ≡ r)
 unfolding patrolOf patrolBy patrolLines
-patrol-refused-keeps r m first budget = by (patrolRefusal r m first)
+patrol-refused-keeps r m task first budget = by (patrolRefusal r m task first)
   where
-    by : (n : ℕ) → (patrolBy n r m first budget .result .refusal ≡ 0 → ⊥)
-        → (patrolBy n r m first budget .memory ≡ m) × (patrolBy n r m first budget .result .rank ≡ r)
+    by : (n : ℕ) → (patrolBy n r m task first budget .result .refusal ≡ 0 → ⊥)
+        → (patrolBy n r m task first budget .memory ≡ m) × (patrolBy n r m task first budget .result .rank ≡ r)
     by zero h = absurd (h refl)
     by (suc n) h = (refl, refl)
 
@@ -109,46 +109,37 @@ fault-refused-keeps r m l k q = by (faultRefusal r m l k q)
     by zero h = absurd (h refl)
     by (suc n) h = (refl, refl)
 
--- a read that makes no visit, refused by 12, 13, 14, 1 or 2, reports no pass and empty masks
-pub read-early-zero : (r : Rank) (m : List ℕ) (l : ℕ) (b : List ℕ) → (bufferRefusal r m l b ≡ 0 → ⊥)
-    → (readOf r m l b .result .refusal ≡ bufferRefusal r m l b) × (readOf r m l b .result .passes ≡ 0)
-    × (readOf r m l b .result .flagged ≡ 0) × (readOf r m l b .result .collisions ≡ 0)
+-- a read that makes no visit, refused by 12, 13, 14, 31, 1 or 2, reports no pass and empty masks
+pub read-early-zero : (r : Rank) (m : List ℕ) (task l : ℕ) (b : List ℕ) → (readRefusal r m task l b ≡ 0 → ⊥)
+    → (readOf r m task l b .result .refusal ≡ readRefusal r m task l b) × (readOf r m task l b .result .passes ≡ 0)
+    × (readOf r m task l b .result .flagged ≡ 0) × (readOf r m task l b .result .collisions ≡ 0)
 unfolding readOf readBy
-read-early-zero r m l b = by (bufferRefusal r m l b)
+read-early-zero r m task l b = by (readRefusal r m task l b)
   where
     by : (n : ℕ) → (n ≡ 0 → ⊥)
-        → (readBy n r m l b .result .refusal ≡ n) × (readBy n r m l b .result .passes ≡ 0) × (readBy n r m l b .result .flagged ≡ 0)
-        × (readBy n r m l b .result .collisions ≡ 0)
+        → (readBy n r m task l b .result .refusal ≡ n) × (readBy n r m task l b .result .passes ≡ 0)
+        × (readBy n r m task l b .result .flagged ≡ 0) × (readBy n r m task l b .result .collisions ≡ 0)
     by zero h = absurd (h refl)
     by (suc n) h = (refl, refl, refl, refl)
+
+-- a refused patrol reports counts of zero
+pub patrol-refused-zero : (r : Rank) (m : List ℕ) (task first budget : ℕ) → (patrolOf r m task first budget .result .refusal ≡ 0 → ⊥)
+    → (patrolOf r m task first budget .result .visited ≡ 0) × (patrolOf r m task first budget .result .refused ≡ 0)
+    × (patrolOf r m task first budget .result .rewritten ≡ 0)
+unfolding patrolOf patrolBy patrolLines
+patrol-refused-zero r m task first budget = by (patrolRefusal r m task first)
+  where
+    by : (n : ℕ) → (patrolBy n r m task first budget .result .refusal ≡ 0 → ⊥)
+        → (patrolBy n r m task first budget .result .visited ≡ 0) × (patrolBy n r m task first budget .result .refused ≡ 0)
+        × (patrolBy n r m task first budget .result .rewritten ≡ 0)
+    by zero h = absurd (h refl)
+    by (suc n) h = (refl, refl, refl)
 
 -- ---- a call is refused exactly where a condition of its list holds
 
 -- what holds exactly where a number is 0 holds exactly where an equal number is
 carried : {A : Type 0} (x n : ℕ) → x ≡ n → (n ≡ 0) ↔ A → (x ≡ 0) ↔ A
 carried x n e f = (λ z. f .0 (sym e ∙ z), λ h. e ∙ f .1 h)
-
--- write's and read's list
-buffer-accepts : (r : Rank) (m : List ℕ) (l : ℕ) (b : List ℕ)
-    → (bufferRefusal r m l b ≡ 0) ↔ None (notReady r ∷ memoryDiffers r m ∷ registerDiffers r ∷ lineOut r l ∷ bufferOut b ∷ [])
-unfolding bufferRefusal
-buffer-accepts r m l b =
-    first-none ((notReady r, 11) ∷ (memoryDiffers r m, 12) ∷ (registerDiffers r, 13) ∷ (lineOut r l, 0) ∷ (bufferOut b, 1) ∷ [])
-
--- a visit that has no number is answered: its only refusals are 20 and 21
-answered : (m cws : List ℕ) → refusalOf (outcomeOf m cws) ≡ 0 → outcomeOf m cws ≡ Answered
-unfolding outcomeOf outcomeBy mustCancel refusalOf
-answered m cws = by (flaggedChips m cws)
-  where
-    cancels : (b : Bool) (number : ℕ) → refusalOf (cond b Answered (Refused (suc number))) ≡ 0
-        → cond b Answered (Refused (suc number)) ≡ Answered
-    cancels true number e = refl
-    cancels false number e = absurd (omega arith)
-
-    by : (n : ℕ) → refusalOf (outcomeBy n m cws) ≡ 0 → outcomeBy n m cws ≡ Answered
-    by zero = cancels (eqb (xorAll (passOne m cws) 9) 0) 19
-    by (suc zero) = λ e. refl
-    by (suc (suc n)) = cancels (eqb (xorAll (passThree m cws) 9) 0) 20
 
 -- boot: 11, 5
 pub boot-accepts : (m cws : List ℕ) → (bootOf m cws .result .refusal ≡ 0) ↔ None (memoryOut m ∷ catchWordsOut cws ∷ [])
@@ -162,37 +153,43 @@ boot-accepts m cws = carried _ (bootRefusal m cws) (by (bootRefusal m cws)) (fir
 -- write: 12, 13, 14, 1, 2
 pub write-accepts : (r : Rank) (m : List ℕ) (l : ℕ) (b : List ℕ)
     → (writeOf r m l b .result .refusal ≡ 0) ↔ None (notReady r ∷ memoryDiffers r m ∷ registerDiffers r ∷ lineOut r l ∷ bufferOut b ∷ [])
-unfolding writeOf writeBy
-write-accepts r m l b = carried _ (bufferRefusal r m l b) (by (bufferRefusal r m l b)) (buffer-accepts r m l b)
+unfolding writeOf writeBy writeRefusal
+write-accepts r m l b =
+    carried _ (writeRefusal r m l b) (by (writeRefusal r m l b))
+    (first-none ((notReady r, 11) ∷ (memoryDiffers r m, 12) ∷ (registerDiffers r, 13) ∷ (lineOut r l, 0) ∷ (bufferOut b, 1) ∷ []))
   where
     by : (n : ℕ) → writeBy n r m l b .result .refusal ≡ n
     by zero = refl
     by (suc n) = refl
 
--- read: 12, 13, 14, 1, 2, and then 20 or 21 by the visit's outcome
-pub read-accepts : (r : Rank) (m : List ℕ) (l : ℕ) (b : List ℕ)
-    → (readOf r m l b .result .refusal ≡ 0)
-    ↔ (None (notReady r ∷ memoryDiffers r m ∷ registerDiffers r ∷ lineOut r l ∷ bufferOut b ∷ [])
+-- read: 12, 13, 14, 31, 1, 2, and then 20 or 21 by the visit's outcome
+pub read-accepts : (r : Rank) (m : List ℕ) (task l : ℕ) (b : List ℕ)
+    → (readOf r m task l b .result .refusal ≡ 0)
+    ↔ (None (notReady r ∷ memoryDiffers r m ∷ registerDiffers r ∷ taskOut task ∷ lineOut r l ∷ bufferOut b ∷ [])
     × (outcomeOf (lineAt m l) (r .«catch_words») ≡ Answered))
-unfolding readOf readBy readResult visitOf reportOf refusalOf
-read-accepts r m l b = by (bufferRefusal r m l b) (buffer-accepts r m l b)
+unfolding readOf readBy readResult visitOf reportOf refusalOf readRefusal
+read-accepts r m task l b =
+    by (readRefusal r m task l b)
+    (first-none
+    ((notReady r, 11) ∷ (memoryDiffers r m, 12) ∷ (registerDiffers r, 13) ∷ (taskOut task, 30) ∷ (lineOut r l, 0) ∷ (bufferOut b, 1) ∷ []))
   where
     cws : List ℕ
     cws = r .«catch_words»
 
-    by : {A : Type 0} (n : ℕ) → (n ≡ 0) ↔ A → (readBy n r m l b .result .refusal ≡ 0) ↔ (A × (outcomeOf (lineAt m l) cws ≡ Answered))
-    by zero f = (λ e. (f .0 refl, answered (lineAt m l) cws e), λ h. ap refusalOf (h .1))
+    by : {A : Type 0} (n : ℕ) → (n ≡ 0) ↔ A → (readBy n r m task l b .result .refusal ≡ 0) ↔ (A × (outcomeOf (lineAt m l) cws ≡ Answered))
+    by zero f = (λ e. (f .0 refl, visit-answered (lineAt m l) cws e), λ h. ap refusalOf (h .1))
     by (suc n) f = (λ e. absurd (omega arith), λ h. f .1 (h .0))
 
--- patrol: 12, 13, 14, 1
-pub patrol-accepts : (r : Rank) (m : List ℕ) (first budget : ℕ)
-    → (patrolOf r m first budget .result .refusal ≡ 0) ↔ None (notReady r ∷ memoryDiffers r m ∷ registerDiffers r ∷ lineOut r first ∷ [])
+-- patrol: 12, 13, 14, 31, 1
+pub patrol-accepts : (r : Rank) (m : List ℕ) (task first budget : ℕ)
+    → (patrolOf r m task first budget .result .refusal ≡ 0)
+    ↔ None (notReady r ∷ memoryDiffers r m ∷ registerDiffers r ∷ taskOut task ∷ lineOut r first ∷ [])
 unfolding patrolOf patrolBy patrolLines patrolRefusal
-patrol-accepts r m first budget =
-    carried _ (patrolRefusal r m first) (by (patrolRefusal r m first))
-    (first-none ((notReady r, 11) ∷ (memoryDiffers r m, 12) ∷ (registerDiffers r, 13) ∷ (lineOut r first, 0) ∷ []))
+patrol-accepts r m task first budget =
+    carried _ (patrolRefusal r m task first) (by (patrolRefusal r m task first))
+    (first-none ((notReady r, 11) ∷ (memoryDiffers r m, 12) ∷ (registerDiffers r, 13) ∷ (taskOut task, 30) ∷ (lineOut r first, 0) ∷ []))
   where
-    by : (n : ℕ) → patrolBy n r m first budget .result .refusal ≡ n
+    by : (n : ℕ) → patrolBy n r m task first budget .result .refusal ≡ n
     by zero = refl
     by (suc n) = refl
 
@@ -238,9 +235,13 @@ free : (n l : ℕ) (b : List ℕ) → l < n → length b ≡ 64 → unless (ltb 
 free n l b below size = rw (lt-ltb l n below, eq-eqb (length b) 64 size)
 
 -- an accepted read is a visit
-plain-read : (p : Plain) (l : ℕ) (b : List ℕ) → l < p .lines → length b ≡ 64 → plainCall p (read l b) ≡ plainVisit p l
+plain-read : (p : Plain) (task l : ℕ) (b : List ℕ) → task < 8 → l < p .lines → length b ≡ 64
+    → plainCall p (read task l b) ≡ plainVisit p l
 unfolding plainCall plainBy plainAccepted
-plain-read p l b below size = ap (λ (n : ℕ). plainBy n p (read l b)) (free (p .lines) l b below size)
+plain-read p task l b named below size = ap (λ (n : ℕ). plainBy n p (read task l b)) none
+  where
+    none : unless (ltb task 8) 31 (unless (ltb l (p .lines)) 1 (unless (eqb (length b) 64) 2 0)) ≡ 0
+    none = rw (lt-ltb task 8 named) (free (p .lines) l b below size)
 
 plain-write : (p : Plain) (l : ℕ) (b : List ℕ) → l < p .lines → length b ≡ 64
     → plainCall p (write l b) ≡ record { out = done; now = P.withLine p l (whole b) }
@@ -261,9 +262,9 @@ unfolding P.withLine
 with-here p l x = rw (eq-eqb l l refl)
 
 -- the premise at a read, whether refused or not
-premise-read : (n : ℕ) (p : Plain) (l : ℕ) (b : List ℕ) → Premise (p .lineAt l) → PremiseBy n p (read l b)
-premise-read zero p l b h = (h, tt)
-premise-read (suc n) p l b h = tt
+premise-read : (n : ℕ) (p : Plain) (task l : ℕ) (b : List ℕ) → Premise (p .lineAt l) → PremiseBy n p (read task l b)
+premise-read zero p task l b h = (h, tt)
+premise-read (suc n) p task l b h = tt
 
 -- the other calls make no visit
 premise-write : (n : ℕ) (p : Plain) (l : ℕ) (b : List ℕ) → PremiseBy n p (write l b)
@@ -288,44 +289,46 @@ module _ (m cws : List ℕ) (cs : List Call) (e : bootRefusal m cws ≡ 0) (t : 
   related = faithful-boot m cws cs e t h .related
 
   -- the read's answer is the plain memory's
-  read-seen : (l : ℕ) (b : List ℕ) → PremiseBy (plainRefusal (plainAfter m cs .lines) (read l b)) (plainAfter m cs) (read l b)
-      → deviceCall (deviceAfter m cws cs) (read l b) .out ≡ plainCall (plainAfter m cs) (read l b) .out
-  read-seen l b g =
+  read-seen : (task l : ℕ) (b : List ℕ)
+      → PremiseBy (plainRefusal (plainAfter m cs .lines) (read task l b)) (plainAfter m cs) (read task l b)
+      → deviceCall (deviceAfter m cws cs) (read task l b) .out ≡ plainCall (plainAfter m cs) (read task l b) .out
+  read-seen task l b g =
       let a = boot-passed m cws e in
-      call-same (length m / 81) (a .some) (a .few) (deviceAfter m cws cs) (plainAfter m cs) (read l b) tt related g .same
+      call-same (length m / 81) (a .some) (a .few) (deviceAfter m cws cs) (plainAfter m cs) (read task l b) tt related g .same
 
-  read-answered : (l : ℕ) (b : List ℕ) → l < length m / 81 → length b ≡ 64 → Premise (plainAfter m cs .lineAt l)
+  read-answered : (task l : ℕ) (b : List ℕ) → task < 8 → l < length m / 81 → length b ≡ 64 → Premise (plainAfter m cs .lineAt l)
       → answers (plainAfter m cs .lineAt l) ≡ true
-      → deviceCall (deviceAfter m cws cs) (read l b) .out ≡ line (plainAfter m cs .lineAt l .bytes)
+      → deviceCall (deviceAfter m cws cs) (read task l b) .out ≡ line (plainAfter m cs .lineAt l .bytes)
   unfolding plainVisit visitBy
-  read-answered l b in-n size g a =
+  read-answered task l b named in-n size g a =
       let p : Plain = plainAfter m cs in
       let in-p : l < p .lines = subst (λ (k : ℕ). l < k) (sym (related .holds .lines)) in-n in
-      read-seen l b (premise-read (plainRefusal (p .lines) (read l b)) p l b g)
-      ∙ ap (λ (x : Did Plain Seen). x .out) (plain-read p l b in-p size)
+      read-seen task l b (premise-read (plainRefusal (p .lines) (read task l b)) p task l b g)
+      ∙ ap (λ (x : Did Plain Seen). x .out) (plain-read p task l b named in-p size)
       ∙ ap (λ (t : Bool). visitBy t p l .out) a
 
   -- one damaged chip: where no other chip of the line is damaged, and its damage is zero or no codeword, the read answers the line written
-  pub one-chip-answers : (l k : ℕ) (b : List ℕ) → l < length m / 81 → length b ≡ 64 → OneChip (plainAfter m cs .lineAt l) k
-      → deviceCall (deviceAfter m cws cs) (read l b) .out ≡ line (plainAfter m cs .lineAt l .bytes)
-  one-chip-answers l k b in-n size o =
+  pub one-chip-answers : (task l k : ℕ) (b : List ℕ) → task < 8 → l < length m / 81 → length b ≡ 64 → OneChip (plainAfter m cs .lineAt l) k
+      → deviceCall (deviceAfter m cws cs) (read task l b) .out ≡ line (plainAfter m cs .lineAt l .bytes)
+  one-chip-answers task l k b named in-n size o =
       let x : Line = plainAfter m cs .lineAt l in
-      read-answered l b in-n size (one-premise x k o) (one-answers x k o)
+      read-answered task l b named in-n size (one-premise x k o) (one-answers x k o)
 
   -- only one-bit damages: where no chip of the line has more than one bad bit, the read answers the line written
-  pub one-bit-answers : (l : ℕ) (b : List ℕ) → l < length m / 81 → length b ≡ 64 → Narrow (plainAfter m cs .lineAt l)
-      → deviceCall (deviceAfter m cws cs) (read l b) .out ≡ line (plainAfter m cs .lineAt l .bytes)
-  one-bit-answers l b in-n size o =
+  pub one-bit-answers : (task l : ℕ) (b : List ℕ) → task < 8 → l < length m / 81 → length b ≡ 64 → Narrow (plainAfter m cs .lineAt l)
+      → deviceCall (deviceAfter m cws cs) (read task l b) .out ≡ line (plainAfter m cs .lineAt l .bytes)
+  one-bit-answers task l b named in-n size o =
       let x : Line = plainAfter m cs .lineAt l in
       let f = related .holds .formed l in-n in
-      read-answered l b in-n size (narrow-premise x f o) (narrow-answers x f o)
+      read-answered task l b named in-n size (narrow-premise x f o) (narrow-answers x f o)
 
   -- an answered read never gives another line: its buffer holds the line written
-  pub answered-read-line : (l : ℕ) (b : List ℕ) → PremiseBy (plainRefusal (plainAfter m cs .lines) (read l b)) (plainAfter m cs) (read l b)
-      → readOf (deviceAfter m cws cs .rank) (deviceAfter m cws cs .memory) l b .result .refusal ≡ 0
-      → readOf (deviceAfter m cws cs .rank) (deviceAfter m cws cs .memory) l b .buffer ≡ plainAfter m cs .lineAt l .bytes
+  pub answered-read-line : (task l : ℕ) (b : List ℕ)
+      → PremiseBy (plainRefusal (plainAfter m cs .lines) (read task l b)) (plainAfter m cs) (read task l b)
+      → readOf (deviceAfter m cws cs .rank) (deviceAfter m cws cs .memory) task l b .result .refusal ≡ 0
+      → readOf (deviceAfter m cws cs .rank) (deviceAfter m cws cs .memory) task l b .buffer ≡ plainAfter m cs .lineAt l .bytes
   unfolding deviceCall plainCall plainBy plainAccepted plainVisit visitBy
-  answered-read-line l b g z = by (plainRefusal (p .lines) (read l b)) (seen ∙ read-seen l b g)
+  answered-read-line task l b g z = by (plainRefusal (p .lines) (read task l b)) (seen ∙ read-seen task l b g)
     where
       d : Device
       d = deviceAfter m cws cs
@@ -334,9 +337,9 @@ module _ (m cws : List ℕ) (cs : List Call) (e : bootRefusal m cws ≡ 0) (t : 
       p = plainAfter m cs
 
       buffer : List ℕ
-      buffer = readOf (d .rank) (d .memory) l b .buffer
+      buffer = readOf (d .rank) (d .memory) task l b .buffer
 
-      seen : line buffer ≡ deviceCall d (read l b) .out
+      seen : line buffer ≡ deviceCall d (read task l b) .out
       seen = ap (λ (n : ℕ). seenBy n (line buffer)) (sym z)
 
       bytesOr : List ℕ → Seen → List ℕ
@@ -349,7 +352,7 @@ module _ (m cws : List ℕ) (cs : List Call) (e : bootRefusal m cws ≡ 0) (t : 
       visited true q = ap (bytesOr (p .lineAt l .bytes)) q
       visited false q = ap (bytesOr (p .lineAt l .bytes)) q
 
-      by : (n : ℕ) → line buffer ≡ plainBy n p (read l b) .out → buffer ≡ p .lineAt l .bytes
+      by : (n : ℕ) → line buffer ≡ plainBy n p (read task l b) .out → buffer ≡ p .lineAt l .bytes
       by zero q = visited (answers (p .lineAt l)) q
       by (suc n) q = ap (bytesOr (p .lineAt l .bytes)) q
 
@@ -386,14 +389,14 @@ bytes-hit b k q = refl
 
 -- what is written, then hit in one chip by a pattern that is zero or no codeword, is read back, after any list
 pub one-fault-answers : (m cws : List ℕ) (cs : List Call) → bootRefusal m cws ≡ 0 → All Typed cs → AtCalls (bootedPlain m) cs
-    → (l k : ℕ) (b q buffer : List ℕ) → l < length m / 81 → k < 9 → length b ≡ 64 → Bytes b → length q ≡ 9 → Bytes q
+    → (task l k : ℕ) (b q buffer : List ℕ) → task < 8 → l < length m / 81 → k < 9 → length b ≡ 64 → Bytes b → length q ≡ 9 → Bytes q
     → (isCodeword (numberOf q) ≡ true → numberOf q ≡ 0) → length buffer ≡ 64
-    → outs deviceCall (deviceAfter m cws cs) (write l b ∷ fault l k q ∷ read l buffer ∷ []) ≡ done ∷ done ∷ line b ∷ []
+    → outs deviceCall (deviceAfter m cws cs) (write l b ∷ fault l k q ∷ read task l buffer ∷ []) ≡ done ∷ done ∷ line b ∷ []
 unfolding plainVisit visitBy P.withLine
-one-fault-answers m cws cs e t h l k b q buffer in-n chip size bytes nine fits c room = from .answers ∙ plain-answers
+one-fault-answers m cws cs e t h task l k b q buffer named in-n chip size bytes nine fits c room = from .answers ∙ plain-answers
   where
     three : List Call
-    three = write l b ∷ fault l k q ∷ read l buffer ∷ []
+    three = write l b ∷ fault l k q ∷ read task l buffer ∷ []
 
     p₀ : Plain
     p₀ = plainAfter m cs
@@ -421,10 +424,10 @@ one-fault-answers m cws cs e t h l k b q buffer in-n chip size bytes nine fits c
 
     at : AtCalls p₀ three
     at =
-        at-step p₀ p₁ (write l b) (fault l k q ∷ read l buffer ∷ []) done written
+        at-step p₀ p₁ (write l b) (fault l k q ∷ read task l buffer ∷ []) done written
         (premise-write (plainRefusal (p₀ .lines) (write l b)) p₀ l b)
-        (at-step p₁ p₂ (fault l k q) (read l buffer ∷ []) done struck (premise-fault (plainRefusal (p₁ .lines) (fault l k q)) p₁ l k q)
-        (premise-read (plainRefusal (p₂ .lines) (read l buffer)) p₂ l buffer (one-premise (p₂ .lineAt l) k one), tt))
+        (at-step p₁ p₂ (fault l k q) (read task l buffer ∷ []) done struck (premise-fault (plainRefusal (p₁ .lines) (fault l k q)) p₁ l k q)
+        (premise-read (plainRefusal (p₂ .lines) (read task l buffer)) p₂ task l buffer (one-premise (p₂ .lineAt l) k one), tt))
 
     from : FaithfulFrom (length m / 81) (deviceAfter m cws cs) p₀ three
     from =
@@ -434,9 +437,9 @@ one-fault-answers m cws cs e t h l k b q buffer in-n chip size bytes nine fits c
 
     plain-answers : outs plainCall p₀ three ≡ done ∷ done ∷ line b ∷ []
     plain-answers =
-        outs-step p₀ p₁ (write l b) (fault l k q ∷ read l buffer ∷ []) done written
+        outs-step p₀ p₁ (write l b) (fault l k q ∷ read task l buffer ∷ []) done written
         ∙ ap (λ (ss : List Seen). done ∷ ss)
-        (outs-step p₁ p₂ (fault l k q) (read l buffer ∷ []) done struck
-        ∙ ap (λ (x : Did Plain Seen). done ∷ x .out ∷ []) (plain-read p₂ l buffer in-p room)
+        (outs-step p₁ p₂ (fault l k q) (read task l buffer ∷ []) done struck
+        ∙ ap (λ (x : Did Plain Seen). done ∷ x .out ∷ []) (plain-read p₂ task l buffer named in-p room)
         ∙ ap (λ (a : Bool). done ∷ visitBy a p₂ l .out ∷ []) (one-answers (p₂ .lineAt l) k one)
         ∙ ap (λ (x : List ℕ). done ∷ line x ∷ []) (ap (λ (x : Line). x .bytes) line-is ∙ bytes-hit b k q))

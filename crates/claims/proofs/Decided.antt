@@ -76,22 +76,22 @@ abbrev pub bytesHold : List ℕ → Bool
 bytesHold [] = true
 bytesHold (b ∷ bs) = ltb b 256 && bytesHold bs
 
-bytes-hold : (bs : List ℕ) → bytesHold bs ≡ true → Bytes bs
+pub bytes-hold : (bs : List ℕ) → bytesHold bs ≡ true → Bytes bs
 bytes-hold [] e = λ i. lit< tt
 bytes-hold (b ∷ bs) e =
     bytes-cons b bs (ltb-true b 256 (and-first (ltb b 256) (bytesHold bs) e)) (bytes-hold bs (and-second (ltb b 256) (bytesHold bs) e))
 
 abbrev pub isTyped : Call → Bool
 isTyped (write l b) = bytesHold b
-isTyped (read l b) = true
-isTyped (patrol first budget) = true
+isTyped (read task l b) = true
+isTyped (patrol task first budget) = true
 isTyped (renew k w) = true
 isTyped (fault l k q) = bytesHold q
 
 is-typed : (c : Call) → isTyped c ≡ true → Typed c
 is-typed (write l b) e = bytes-hold b e
-is-typed (read l b) e = tt
-is-typed (patrol first budget) e = tt
+is-typed (read task l b) e = tt
+is-typed (patrol task first budget) e = tt
 is-typed (renew k w) e = tt
 is-typed (fault l k q) e = bytes-hold q e
 

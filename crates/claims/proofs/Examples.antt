@@ -27,19 +27,19 @@ memory = replicate 324 0
 abbrev elevens : List ℕ
 elevens = replicate 64 17
 
-abbrev buffer : List ℕ
+abbrev pub buffer : List ℕ
 buffer = replicate 64 0
 
 -- word 0 with check 07h: three bits, and M is 1
-abbrev wide : List ℕ
+abbrev pub wide : List ℕ
 wide = 0 ∷ 0 ∷ 0 ∷ 0 ∷ 0 ∷ 0 ∷ 0 ∷ 0 ∷ 7 ∷ []
 
 -- word 1 with check 00h: one bit
-abbrev narrow : List ℕ
+abbrev pub narrow : List ℕ
 narrow = 0 ∷ 0 ∷ 0 ∷ 0 ∷ 0 ∷ 0 ∷ 0 ∷ 1 ∷ 0 ∷ []
 
 -- each catch-word 1111111111111111h
-abbrev catchWords : List ℕ
+abbrev pub catchWords : List ℕ
 catchWords = replicate 9 1229782938247303441
 
 -- an accepted boot
@@ -66,8 +66,8 @@ device-shown cs seen s =
 
 abbrev pub benchCalls : List Call
 benchCalls =
-    write 0 elevens ∷ read 0 buffer ∷ read 0 buffer ∷ fault 0 3 wide ∷ read 0 buffer ∷ fault 0 3 wide ∷ fault 0 5 narrow ∷ read 0 buffer
-    ∷ []
+    write 0 elevens ∷ read 0 0 buffer ∷ read 0 0 buffer ∷ fault 0 3 wide ∷ read 0 0 buffer ∷ fault 0 3 wide ∷ fault 0 5 narrow
+    ∷ read 0 0 buffer ∷ []
 
 abbrev pub benchSeen : List Seen
 benchSeen = done ∷ line elevens ∷ line elevens ∷ done ∷ line elevens ∷ done ∷ done ∷ refused 21 ∷ []
@@ -80,17 +80,18 @@ bench-shown = record { typed = refl; premise = refl; plain = refl }
 pub bench-device : outs deviceCall (bootedDevice memory catchWords) benchCalls ≡ benchSeen
 bench-device = device-shown benchCalls benchSeen bench-shown
 
--- ---- a line refused with 21 stays so until it is written, and calls refused by 1 to 4 change nothing
+-- ---- a line refused with 21 stays so until it is written, and calls refused by 31 and 1 to 4 change nothing; 31 comes before 1 and 2
 
 abbrev pub refusedCalls : List Call
 refusedCalls =
-    write 1 elevens ∷ fault 1 0 wide ∷ fault 1 8 narrow ∷ read 1 buffer ∷ renew 4 5 ∷ read 1 buffer ∷ write 1 elevens ∷ read 1 buffer
-    ∷ read 4 buffer ∷ read 1 [] ∷ fault 1 9 wide ∷ fault 1 0 [] ∷ patrol 4 1 ∷ renew 9 0 ∷ read 1 buffer ∷ []
+    write 1 elevens ∷ fault 1 0 wide ∷ fault 1 8 narrow ∷ read 7 1 buffer ∷ renew 4 5 ∷ read 7 1 buffer ∷ write 1 elevens ∷ read 7 1 buffer
+    ∷ read 8 4 [] ∷ patrol 4294967295 4 1 ∷ read 7 4 buffer ∷ read 7 1 [] ∷ fault 1 9 wide ∷ fault 1 0 [] ∷ patrol 0 4 1 ∷ renew 9 0
+    ∷ read 7 1 buffer ∷ []
 
 abbrev pub refusedSeen : List Seen
 refusedSeen =
-    done ∷ done ∷ done ∷ refused 21 ∷ done ∷ refused 21 ∷ done ∷ line elevens ∷ refused 1 ∷ refused 2 ∷ refused 3 ∷ refused 4 ∷ refused 1
-    ∷ refused 3 ∷ line elevens ∷ []
+    done ∷ done ∷ done ∷ refused 21 ∷ done ∷ refused 21 ∷ done ∷ line elevens ∷ refused 31 ∷ refused 31 ∷ refused 1 ∷ refused 2 ∷ refused 3
+    ∷ refused 4 ∷ refused 1 ∷ refused 3 ∷ line elevens ∷ []
 
 pub refused-shown : Shown refusedCalls refusedSeen
 unfolding bootedPlain plainBoot plainCall plainBy plainAccepted plainVisit visitBy P.withLine whole hit answers damagedChips undone damage
@@ -106,8 +107,8 @@ refused-device = device-shown refusedCalls refusedSeen refused-shown
 abbrev pub patrolCalls : List Call
 patrolCalls =
     write 0 elevens ∷ write 1 elevens ∷ write 2 elevens ∷ fault 0 3 wide ∷ fault 1 2 narrow ∷ fault 1 7 narrow ∷ fault 2 0 wide
-    ∷ fault 2 1 narrow ∷ patrol 0 3 ∷ patrol 0 2 ∷ patrol 2 9 ∷ patrol 3 0 ∷ read 0 buffer ∷ fault 1 4 wide ∷ read 1 buffer ∷ read 2 buffer
-    ∷ []
+    ∷ fault 2 1 narrow ∷ patrol 1 0 3 ∷ patrol 2 0 2 ∷ patrol 1 2 9 ∷ patrol 5 3 0 ∷ read 0 0 buffer ∷ fault 1 4 wide ∷ read 7 1 buffer
+    ∷ read 3 2 buffer ∷ []
 
 abbrev pub patrolSeen : List Seen
 patrolSeen =

@@ -7,5 +7,9 @@ pub mod Boot
 pub mod Claims
 pub mod Damages
 pub mod Corollaries
+pub mod Tasks
+pub mod Totals
+pub mod Rewritten
 pub mod Decided
 pub mod Examples
+pub mod TaskExamples

@@ -29,7 +29,26 @@ module _ {S P A B W : Type 0} (R : S → P → Type 0) (left : A → W) (right :
           let rest = lockstep cs (f s c .now) (g p c .now) (w .1) (a .still) (h .1) in
           record { answers = ap₂ (λ (x : W) (xs : List W). x ∷ xs) (a .same) (rest .answers); related = rest .related }
 
+    -- where one step needs no premise
+    module _ (one : (s : S) (p : P) (c : C) → R s p → Agree (f s c) (g p c)) where
+      pub lockstep-free : (cs : List C) (s : S) (p : P) → R s p → Whole s p cs
+      lockstep-free [] s p r = record { answers = refl; related = r }
+      lockstep-free (c ∷ cs) s p r =
+          let a = one s p c r in
+          let rest = lockstep-free cs (f s c .now) (g p c .now) (a .still) in
+          record { answers = ap₂ (λ (x : W) (xs : List W). x ∷ xs) (a .same) (rest .answers); related = rest .related }
+
 -- answers compared as they are
 pub map-same : {A : Type 0} (xs : List A) → map (λ (x : A). x) xs ≡ xs
 map-same [] = refl
 map-same (x ∷ xs) = ap (λ ys. x ∷ ys) (map-same xs)
+
+-- commands changed before each step, or in the list
+module _ {S C A : Type 0} (step : S → C → Did S A) (change : C → C) where
+  pub outs-changed : (cs : List C) (s : S) → outs (λ s c. step s (change c)) s cs ≡ outs step s (map change cs)
+  outs-changed [] s = refl
+  outs-changed (c ∷ cs) s = ap (λ (xs : List A). step s (change c) .out ∷ xs) (outs-changed cs (step s (change c) .now))
+
+  pub end-changed : (cs : List C) (s : S) → end (λ s c. step s (change c)) s cs ≡ end step s (map change cs)
+  end-changed [] s = refl
+  end-changed (c ∷ cs) s = end-changed cs (step s (change c) .now)

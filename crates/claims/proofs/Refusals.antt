@@ -1,4 +1,5 @@
--- Lists of refusals, and those of a device that is related to a plain memory: 12 to 14 don't arise, and 1 to 4 are the plain memory's.
+-- Lists of refusals, and those of a device that is related to a plain memory: 12 to 14 don't arise, and 31 and 1 to 4 are the plain
+-- memory's.
 -- Assumes nothing.
 use mathlib.Core.Path.{_≡_, refl, sym, ap, _∙_}
 use mathlib.Core.Logic.{_↔_}
@@ -10,7 +11,7 @@ use lib.Dec.{eqb, ltb}
 use lib.ListN.{length, getD}
 use borrow.Author.Tests.{le-leb, eq-eqb}
 use Rattle.line.specs.ChipLaws.{count-zero}
-use Rattle.rank.specs.Refusals.{notReady, memoryDiffers, registerDiffers, lineOut, bufferOut, chipOut, patternOut, refusedIf, firstOf, bufferRefusal, patrolRefusal, renewRefusal, faultRefusal}
+use Rattle.rank.specs.Refusals.{notReady, memoryDiffers, registerDiffers, taskOut, lineOut, bufferOut, chipOut, patternOut, refusedIf, firstOf, writeRefusal, readRefusal, patrolRefusal, renewRefusal, faultRefusal}
 use Rattle.rank.specs.Calls.{Device}
 use Rattle.claims.specs.Lists.{All, Call, write, read, patrol, renew, fault}
 use Rattle.claims.specs.Plain.{Plain, unless, plainRefusal}
@@ -51,9 +52,9 @@ first-none (t ∷ ts) = by (t .0) (first-none ts)
 
 -- the refusal of a call by the arguments and the state
 abbrev pub deviceRefusal : Device → Call → ℕ
-deviceRefusal d (write l b) = bufferRefusal (d .rank) (d .memory) l b
-deviceRefusal d (read l b) = bufferRefusal (d .rank) (d .memory) l b
-deviceRefusal d (patrol first budget) = patrolRefusal (d .rank) (d .memory) first
+deviceRefusal d (write l b) = writeRefusal (d .rank) (d .memory) l b
+deviceRefusal d (read task l b) = readRefusal (d .rank) (d .memory) task l b
+deviceRefusal d (patrol task first budget) = patrolRefusal (d .rank) (d .memory) task first
 deviceRefusal d (renew k w) = renewRefusal (d .rank) k
 deviceRefusal d (fault l k q) = faultRefusal (d .rank) (d .memory) l k q
 
@@ -87,20 +88,26 @@ module _ (n : ℕ) (low : 1 ≤ n) (high : n ≤ 65536) (d : Device) (p : Plain)
   lines-same : d .rank .lines ≡ p .lines
   lines-same = r .ready .lines ∙ sym (r .holds .lines)
 
-  buffer-same : (l : ℕ) (b : List ℕ)
-      → bufferRefusal (d .rank) (d .memory) l b ≡ unless (ltb l (p .lines)) 1 (unless (eqb (length b) 64) 2 0)
-  unfolding bufferRefusal lineOut bufferOut
-  buffer-same l b =
-      rw (is-ready, memory-sized, registers-same, lines-same)
-      (first-unless (ltb l (p .lines)) 0 (refusedIf (not (eqb (length b) 64)) 2 ∷ [])
-      ∙ ap (unless (ltb l (p .lines)) 1) (first-unless (eqb (length b) 64) 1 []))
+  -- 1, and 2 after it, as a device's list and as the plain memory's tests
+  line-buffer : (l : ℕ) (b : List ℕ)
+      → firstOf (refusedIf (not (ltb l (p .lines))) 1 ∷ refusedIf (not (eqb (length b) 64)) 2 ∷ [])
+      ≡ unless (ltb l (p .lines)) 1 (unless (eqb (length b) 64) 2 0)
+  line-buffer l b =
+      first-unless (ltb l (p .lines)) 0 (refusedIf (not (eqb (length b) 64)) 2 ∷ [])
+      ∙ ap (unless (ltb l (p .lines)) 1) (first-unless (eqb (length b) 64) 1 [])
 
-  -- 1 to 4 come on the same conditions in the same order
+  -- 31 and 1 to 4 come on the same conditions in the same order
   pub refusal-same : (c : Call) → deviceRefusal d c ≡ plainRefusal (p .lines) c
-  unfolding patrolRefusal renewRefusal faultRefusal lineOut chipOut patternOut
-  refusal-same (write l b) = buffer-same l b
-  refusal-same (read l b) = buffer-same l b
-  refusal-same (patrol first budget) = rw (is-ready, memory-sized, registers-same, lines-same) (first-unless (ltb first (p .lines)) 0 [])
+  unfolding writeRefusal readRefusal patrolRefusal renewRefusal faultRefusal taskOut lineOut bufferOut chipOut patternOut
+  refusal-same (write l b) = rw (is-ready, memory-sized, registers-same, lines-same) (line-buffer l b)
+  refusal-same (read task l b) =
+      rw (is-ready, memory-sized, registers-same, lines-same)
+      (first-unless (ltb task 8) 30 (refusedIf (not (ltb l (p .lines))) 1 ∷ refusedIf (not (eqb (length b) 64)) 2 ∷ [])
+      ∙ ap (unless (ltb task 8) 31) (line-buffer l b))
+  refusal-same (patrol task first budget) =
+      rw (is-ready, memory-sized, registers-same, lines-same)
+      (first-unless (ltb task 8) 30 (refusedIf (not (ltb first (p .lines))) 1 ∷ [])
+      ∙ ap (unless (ltb task 8) 31) (first-unless (ltb first (p .lines)) 0 []))
   refusal-same (renew k w) = rw (is-ready, registers-same) (first-unless (ltb k 9) 2 [])
   refusal-same (fault l k q) =
       rw (is-ready, memory-sized, registers-same, lines-same)

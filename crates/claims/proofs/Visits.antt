@@ -11,7 +11,8 @@ use lib.Seq.{take-all}
 use borrow.Author.Tests.{eqb-true}
 use Rattle.line.specs.Cells.{numberOf, bytesOf, bytesFrom, eightAt, lineWord, stored}
 use Rattle.line.specs.Damage.{Parity, Premise as PatternPremise, damages, undone as patternsUndone, answers as patternsAnswer}
-use Rattle.line.specs.Visit.{outcomeOf, wordOf, bytesAfter, reportOf}
+use Rattle.line.specs.Visit.{passOne, passThree, flaggedChips, mustCancel, outcomeBy, outcomeOf, wordOf, bytesAfter, reportOf, refusalOf}
+use Rattle.line.specs.Chips.{xorAll}
 use Rattle.line.specs.ChipLaws.{joined-ext}
 use Rattle.line.specs.ByteLaws.{bytes-bytesFrom, bytesOf-number}
 use Rattle.line.specs.CellLaws.{joined-blocks, length-eight, lineWord-eight}
@@ -73,14 +74,31 @@ module _ (x : Line) (f : Formed x) (h : Premise x) (cws : List ℕ) where
           ∙ bytesOf-number (bytesFrom 8 (8 * k) (x .bytes)) 8 (bytes-bytesFrom 8 (8 * k) (x .bytes) (f .bytes))
           (length-eight (x .bytes) (f .size) k l)
 
+-- ---- the outcome of a visit
+
+-- a visit that has no number is answered: its only refusals are 20 and 21
+pub visit-answered : (m cws : List ℕ) → refusalOf (outcomeOf m cws) ≡ 0 → outcomeOf m cws ≡ Answered
+unfolding outcomeOf outcomeBy mustCancel refusalOf
+visit-answered m cws = by (flaggedChips m cws)
+  where
+    cancels : (b : Bool) (number : ℕ) → refusalOf (cond b Answered (Refused (suc number))) ≡ 0
+        → cond b Answered (Refused (suc number)) ≡ Answered
+    cancels true number e = refl
+    cancels false number e = absurd (omega arith)
+
+    by : (n : ℕ) → refusalOf (outcomeBy n m cws) ≡ 0 → outcomeBy n m cws ≡ Answered
+    by zero = cancels (eqb (xorAll (passOne m cws) 9) 0) 19
+    by (suc zero) = λ e. refl
+    by (suc (suc n)) = cancels (eqb (xorAll (passThree m cws) 9) 0) 20
+
 -- ---- the record after a visit
 
 -- registers grow as their catch-words do
-pub ready-settled : (n : ℕ) (r : Rank) (v : Report) → Ready n r → Ready n (settled v r)
+pub ready-settled : (n task : ℕ) (r : Rank) (v : Report) → Ready n r → Ready n (settled task v r)
 unfolding settled settledBy
-ready-settled n r v h = by (v .outcome)
+ready-settled n task r v h = by (v .outcome)
   where
-    by : (o : Outcome) → Ready n (settledBy o v r)
+    by : (o : Outcome) → Ready n (settledBy task o v r)
     by Answered = record { lines = h .lines; enable = h .enable; registers = ap (moved (v .collisions)) (h .registers) }
     by (Refused number) = h
 
@@ -95,7 +113,7 @@ with-same p l = λ i. record { lines = p .lines; lineAt = λ j. kept j (eqb j l)
     kept j true e = ap (p .lineAt) (sym (eqb-true j l e))
     kept j false e = refl
 
-module _ (n : ℕ) (d : Device) (p : Plain) (l : ℕ) (in-n : l < n) (r : Related n d p) (h : Premise (p .lineAt l)) where
+module _ (n task : ℕ) (d : Device) (p : Plain) (l : ℕ) (in-n : l < n) (r : Related n d p) (h : Premise (p .lineAt l)) where
   abbrev cws : List ℕ
   cws = d .rank .«catch_words»
 
@@ -106,7 +124,7 @@ module _ (n : ℕ) (d : Device) (p : Plain) (l : ℕ) (in-n : l < n) (r : Relate
   lies = r .holds .each l in-n
 
   -- the device answers where the plain memory does, else it refuses with 21
-  pub visited-outcome : visitOf d l .out .outcome ≡ cond (answers (p .lineAt l)) Answered (Refused 21)
+  pub visited-outcome : visitOf task d l .out .outcome ≡ cond (answers (p .lineAt l)) Answered (Refused 21)
   unfolding visitOf reportOf
   visited-outcome = ap (λ (m : List ℕ). outcomeOf m cws) lies ∙ line-outcome (p .lineAt l) formed h cws
 
@@ -130,11 +148,11 @@ module _ (n : ℕ) (d : Device) (p : Plain) (l : ℕ) (in-n : l < n) (r : Relate
       subst (Holds n (withLine (d .memory) l bs)) (with-same p l) (holds-laid n (d .memory) p l in-n (r .holds) bs (p .lineAt l) formed e)
 
   -- the two stay related
-  pub visited-still : Related n (visitOf d l .now) (plainVisit p l .now)
+  pub visited-still : Related n (visitOf task d l .now) (plainVisit p l .now)
   unfolding visitOf plainVisit
   visited-still =
       record {
-        ready = ready-settled n (d .rank) (reportOf (lineAt (d .memory) l) cws) (r .ready);
+        ready = ready-settled n task (d .rank) (reportOf (lineAt (d .memory) l) cws) (r .ready);
         holds = holds-visited (answers (p .lineAt l)) (bytesAfter (lineAt (d .memory) l) cws) visited-bytes;
       }
 
@@ -148,19 +166,20 @@ unfolding isRefused visitBy
 refused-same true p l = refl
 refused-same false p l = refl
 
-pub visit-same : (n : ℕ) (d : Device) (p : Plain) (l : ℕ) → l < n → Related n d p → Premise (p .lineAt l)
-    → Agree (Related n) reportRefused P.isRefused (visitOf d l) (plainVisit p l)
+pub visit-same : (n task : ℕ) (d : Device) (p : Plain) (l : ℕ) → l < n → Related n d p → Premise (p .lineAt l)
+    → Agree (Related n) reportRefused P.isRefused (visitOf task d l) (plainVisit p l)
 unfolding plainVisit
-visit-same n d p l in-n r h =
+visit-same n task d p l in-n r h =
     record {
-      same = ap isRefused (visited-outcome n d p l in-n r h) ∙ refused-same (answers (p .lineAt l)) p l;
-      still = visited-still n d p l in-n r h;
+      same = ap isRefused (visited-outcome n task d p l in-n r h) ∙ refused-same (answers (p .lineAt l)) p l;
+      still = visited-still n task d p l in-n r h;
     }
 
 -- as many visits are refused, and the two stay related
-pub visits-same : (n : ℕ) (ls : List ℕ) (d : Device) (p : Plain) → All (λ l. l < n) ls → Related n d p → AtVisits p ls
-    → Whole (Related n) reportRefused P.isRefused visitOf plainVisit d p ls
-visits-same n = lockstep (Related n) reportRefused P.isRefused visitOf plainVisit (λ l. l < n) (λ p l. Premise (p .lineAt l)) (visit-same n)
+pub visits-same : (n task : ℕ) (ls : List ℕ) (d : Device) (p : Plain) → All (λ l. l < n) ls → Related n d p → AtVisits p ls
+    → Whole (Related n) reportRefused P.isRefused (visitOf task) plainVisit d p ls
+visits-same n task =
+    lockstep (Related n) reportRefused P.isRefused (visitOf task) plainVisit (λ l. l < n) (λ p l. Premise (p .lineAt l)) (visit-same n task)
 
 -- what agrees element by element has the same sum
 pub sum-map : {A : Type 0} (f : A → ℕ) (xs : List A) → sumOf f xs ≡ sumOf (λ n. n) (map f xs)

@@ -13,8 +13,8 @@ use Rattle.rank.specs.Calls.{Device, Leaves, LeavesRead, writeOf, readOf, patro
 -- alone.
 pub data Call : Type 0 where
   write : (line : ℕ) (bytes : List ℕ) → Call
-  read : (line : ℕ) (buffer : List ℕ) → Call
-  patrol : (first budget : ℕ) → Call
+  read : (task line : ℕ) (buffer : List ℕ) → Call
+  patrol : (task first budget : ℕ) → Call
   renew : (chip word : ℕ) → Call
   fault : (line chip : ℕ) (pattern : List ℕ) → Call
 
@@ -26,8 +26,8 @@ All holds (x ∷ xs) = holds x × All holds xs
 -- what the arguments' types say: bytes are below 256
 abbrev pub Typed : Call → Type 0
 Typed (write l b) = Bytes b
-Typed (read l b) = Unit {0}
-Typed (patrol first budget) = Unit {0}
+Typed (read task l b) = Unit {0}
+Typed (patrol task first budget) = Unit {0}
 Typed (renew k w) = Unit {0}
 Typed (fault l k q) = Bytes q
 
@@ -49,11 +49,11 @@ unfoldable pub deviceCall : Device → Call → Did Device Seen
 deviceCall d (write l b) =
     let x : Leaves Called = writeOf (d .rank) (d .memory) l b in
     record { out = seenBy (x .result .refusal) done; now = record { rank = x .result .rank; memory = x .memory } }
-deviceCall d (read l b) =
-    let x : LeavesRead = readOf (d .rank) (d .memory) l b in
+deviceCall d (read task l b) =
+    let x : LeavesRead = readOf (d .rank) (d .memory) task l b in
     record { out = seenBy (x .result .refusal) (line (x .buffer)); now = record { rank = x .result .rank; memory = x .memory } }
-deviceCall d (patrol first budget) =
-    let x : Leaves PatrolResult = patrolOf (d .rank) (d .memory) first budget in
+deviceCall d (patrol task first budget) =
+    let x : Leaves PatrolResult = patrolOf (d .rank) (d .memory) task first budget in
     record {
       out = seenBy (x .result .refusal) (counts (x .result .visited) (x .result .refused));
       now = record { rank = x .result .rank; memory = x .memory };

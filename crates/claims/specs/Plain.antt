@@ -1,5 +1,6 @@
 -- Document 01, "Plain memory". It gets N and the arguments of the calls except catch-words, and nothing of the record or the chips. With
--- the device it shares the code inside a chip (here M) and general functions on lists; refusals and visits are its own.
+-- the device it shares the code inside a chip (here M) and general functions on lists; refusals and visits are its own. Document 02,
+-- Req 01: it refuses a task not below 8 itself, and nothing else of it sees the task.
 -- p stands for the plain memory, l for a line's and k for a chip's number.
 -- Definitions alone.
 use Prim.Native.Nat.{ℕ, zero, suc, _-_, min}
@@ -67,22 +68,22 @@ plainVisit p l = visitBy (answers (p .lineAt l)) p l
 
 -- ---- the calls
 
--- refusals 1 to 4: the number where a test fails, else what comes next; 0 is none
+-- refusals 31 and 1 to 4: the number where a test fails, else what comes next; 0 is none
 abbrev pub unless : Bool → ℕ → ℕ → ℕ
 unless holds number next = cond holds next number
 
 abbrev pub plainRefusal : ℕ → Call → ℕ
 plainRefusal n (write l b) = unless (ltb l n) 1 (unless (eqb (length b) 64) 2 0)
-plainRefusal n (read l b) = unless (ltb l n) 1 (unless (eqb (length b) 64) 2 0)
-plainRefusal n (patrol first budget) = unless (ltb first n) 1 0
+plainRefusal n (read task l b) = unless (ltb task 8) 31 (unless (ltb l n) 1 (unless (eqb (length b) 64) 2 0))
+plainRefusal n (patrol task first budget) = unless (ltb task 8) 31 (unless (ltb first n) 1 0)
 plainRefusal n (renew k w) = unless (ltb k 9) 3 0
 plainRefusal n (fault l k q) = unless (ltb l n) 1 (unless (ltb k 9) 3 (unless (eqb (length q) 9) 4 0))
 
 -- the lines that an accepted call visits, in order
 abbrev pub visits : ℕ → Call → List ℕ
 visits n (write l b) = []
-visits n (read l b) = l ∷ []
-visits n (patrol first budget) = upFrom first (min budget (n - first))
+visits n (read task l b) = l ∷ []
+visits n (patrol task first budget) = upFrom first (min budget (n - first))
 visits n (renew k w) = []
 visits n (fault l k q) = []
 
@@ -96,9 +97,9 @@ isRefused (counts v r) = 0
 -- an accepted call: a read is one visit, and patrol visits its lines one by one upwards and counts the visited and the refused
 unfoldable pub plainAccepted : Plain → Call → Did Plain Seen
 plainAccepted p (write l b) = record { out = done; now = withLine p l (whole b) }
-plainAccepted p (read l b) = plainVisit p l
-plainAccepted p (patrol first budget) =
-    let ls : List ℕ = visits (p .lines) (patrol first budget) in
+plainAccepted p (read task l b) = plainVisit p l
+plainAccepted p (patrol task first budget) =
+    let ls : List ℕ = visits (p .lines) (patrol task first budget) in
     record { out = counts (length (outs plainVisit p ls)) (sumOf isRefused (outs plainVisit p ls)); now = end plainVisit p ls }
 plainAccepted p (renew k w) = record { out = done; now = p }
 plainAccepted p (fault l k q) = record { out = done; now = withLine p l (hit (p .lineAt l) k q) }

@@ -6,7 +6,7 @@ use mathlib.Core.List.{List}
 use Prim.Native.Nat.{ℕ, zero, suc}
 use Rattle.rank.specs.declared.Rank.{Rank}
 use Rattle.rank.specs.Record.{fresh}
-use Rattle.rank.specs.Refusals.{bootRefusal, bufferRefusal, patrolRefusal, renewRefusal, faultRefusal}
+use Rattle.rank.specs.Refusals.{bootRefusal, writeRefusal, readRefusal, patrolRefusal, renewRefusal, faultRefusal}
 use Rattle.rank.specs.Calls.{bootBy, bootOf, writeBy, writeOf, readBy, readOf, patrolBy, patrolOf, renewBy, renewOf, faultBy, faultOf}
 
 module _ (m cws : List ℕ) (n : ℕ) (e : n ≡ bootRefusal m cws) where
@@ -22,7 +22,7 @@ module _ (m cws : List ℕ) (n : ℕ) (e : n ≡ bootRefusal m cws) where
   unfolding bootOf
   boot-accepted z = ap (λ (k : ℕ). bootBy k m cws) (sym e ∙ z)
 
-module _ (r : Rank) (m : List ℕ) (l : ℕ) (b : List ℕ) (n : ℕ) (e : n ≡ bufferRefusal r m l b) where
+module _ (r : Rank) (m : List ℕ) (l : ℕ) (b : List ℕ) (n : ℕ) (e : n ≡ writeRefusal r m l b) where
   pub write-refused : n ≢ 0 → writeOf r m l b ≡ record { result = record { refusal = n; rank = r }; memory = m }
   unfolding writeOf writeBy
   write-refused h = ap (λ (k : ℕ). writeBy k r m l b) (sym e) ∙ by n h
@@ -35,38 +35,39 @@ module _ (r : Rank) (m : List ℕ) (l : ℕ) (b : List ℕ) (n : ℕ) (e : n ≡
   unfolding writeOf
   write-accepted z = ap (λ (k : ℕ). writeBy k r m l b) (sym e ∙ z)
 
+module _ (r : Rank) (m : List ℕ) (task l : ℕ) (b : List ℕ) (n : ℕ) (e : n ≡ readRefusal r m task l b) where
   pub read-refused : n ≢ 0
-      → readOf r m l b ≡ record
+      → readOf r m task l b ≡ record
       { result = record { refusal = n; passes = 0; flagged = 0; collisions = 0; rank = r }; memory = m; buffer = b }
   unfolding readOf readBy
-  read-refused h = ap (λ (k : ℕ). readBy k r m l b) (sym e) ∙ by n h
+  read-refused h = ap (λ (k : ℕ). readBy k r m task l b) (sym e) ∙ by n h
     where
       by : (k : ℕ) → k ≢ 0
-          → readBy k r m l b ≡ record
+          → readBy k r m task l b ≡ record
           { result = record { refusal = k; passes = 0; flagged = 0; collisions = 0; rank = r }; memory = m; buffer = b }
       by zero h = absurd (h refl)
       by (suc k) h = refl
 
-  pub read-accepted : n ≡ 0 → readOf r m l b ≡ readBy 0 r m l b
+  pub read-accepted : n ≡ 0 → readOf r m task l b ≡ readBy 0 r m task l b
   unfolding readOf
-  read-accepted z = ap (λ (k : ℕ). readBy k r m l b) (sym e ∙ z)
+  read-accepted z = ap (λ (k : ℕ). readBy k r m task l b) (sym e ∙ z)
 
-module _ (r : Rank) (m : List ℕ) (first budget n : ℕ) (e : n ≡ patrolRefusal r m first) where
+module _ (r : Rank) (m : List ℕ) (task first budget n : ℕ) (e : n ≡ patrolRefusal r m task first) where
   pub patrol-refused : n ≢ 0
-      → patrolOf r m first budget ≡ record
+      → patrolOf r m task first budget ≡ record
       { result = record { refusal = n; visited = 0; refused = 0; rewritten = 0; rank = r }; memory = m }
   unfolding patrolOf patrolBy
-  patrol-refused h = ap (λ (k : ℕ). patrolBy k r m first budget) (sym e) ∙ by n h
+  patrol-refused h = ap (λ (k : ℕ). patrolBy k r m task first budget) (sym e) ∙ by n h
     where
       by : (k : ℕ) → k ≢ 0
-          → patrolBy k r m first budget ≡ record
+          → patrolBy k r m task first budget ≡ record
           { result = record { refusal = k; visited = 0; refused = 0; rewritten = 0; rank = r }; memory = m }
       by zero h = absurd (h refl)
       by (suc k) h = refl
 
-  pub patrol-accepted : n ≡ 0 → patrolOf r m first budget ≡ patrolBy 0 r m first budget
+  pub patrol-accepted : n ≡ 0 → patrolOf r m task first budget ≡ patrolBy 0 r m task first budget
   unfolding patrolOf
-  patrol-accepted z = ap (λ (k : ℕ). patrolBy k r m first budget) (sym e ∙ z)
+  patrol-accepted z = ap (λ (k : ℕ). patrolBy k r m task first budget) (sym e ∙ z)
 
 module _ (r : Rank) (k w n : ℕ) (e : n ≡ renewRefusal r k) where
   pub renew-refused : n ≢ 0 → renewOf r k w ≡ record { refusal = n; rank = r }

@@ -1,6 +1,6 @@
 -- Document 01, "The calls": for each call its result, the record in it, and every lent byte after it, refused or not. r stands for the
 -- record, m for the lent memory, l for a line's and k for a chip's number. A refusal changes no lent byte and returns the record given; a
--- refused boot returns one with every field zero.
+-- refused boot returns one with every field zero. Document 02, Req 01: a call that visits lines names one task for all its visits.
 -- Definitions alone.
 use Prim.Native.Nat.{ℕ, zero, suc, _-_, _/_, min}
 use mathlib.Core.List.{List}
@@ -19,7 +19,7 @@ use Rattle.rank.specs.declared.PatrolResult.{PatrolResult}
 use Rattle.rank.specs.Runs.{Did, outs, end, upFrom, sumOf}
 use Rattle.rank.specs.Lines.{lineAt, withLine}
 use Rattle.rank.specs.Record.{fresh, booted, settled}
-use Rattle.rank.specs.Refusals.{bootRefusal, bufferRefusal, patrolRefusal, renewRefusal, faultRefusal}
+use Rattle.rank.specs.Refusals.{bootRefusal, writeRefusal, readRefusal, patrolRefusal, renewRefusal, faultRefusal}
 
 -- the record and the lent memory
 pub record Device : Type 0 where
@@ -42,19 +42,19 @@ pub record LeavesRead : Type 0 where
 
 -- ---- a visit, in the memory and with the record
 
--- line l visited: what is reported, the record by step 6, and the memory with the line's bytes after it. In pass one the registers equal
--- the catch-words: test 14 stands before every visit, and step 6 moves both alike.
-unfoldable pub visitOf : Device → ℕ → Did Device Report
-visitOf d l =
+-- line l visited for a task: what is reported, the record by step 6, and the memory with the line's bytes after it. In pass one the
+-- registers equal the catch-words: test 14 stands before every visit, and step 6 moves both alike.
+unfoldable pub visitOf : ℕ → Device → ℕ → Did Device Report
+visitOf task d l =
     record {
       out = reportOf (lineAt (d .memory) l) (d .rank .«catch_words»);
       now = record {
-        rank = settled (reportOf (lineAt (d .memory) l) (d .rank .«catch_words»)) (d .rank);
+        rank = settled task (reportOf (lineAt (d .memory) l) (d .rank .«catch_words»)) (d .rank);
         memory = withLine (d .memory) l (bytesAfter (lineAt (d .memory) l) (d .rank .«catch_words»));
       };
     }
 
--- ---- boot: clears the memory, sets N and Enable, puts the catch-words in both copies, total 0
+-- ---- boot: clears the memory, sets N and Enable, puts the catch-words in both copies, each total 0
 
 unfoldable pub bootBy : ℕ → List ℕ → List ℕ → Leaves Called
 bootBy zero m cws = record { result = record { refusal = 0; rank = booted (length m / 81) cws }; memory = replicate (length m) 0 }
@@ -70,7 +70,7 @@ writeBy zero r m l b = record { result = record { refusal = 0; rank = r }; memor
 writeBy (suc n) r m l b = record { result = record { refusal = suc n; rank = r }; memory = m }
 
 unfoldable pub writeOf : Rank → List ℕ → ℕ → List ℕ → Leaves Called
-writeOf r m l b = writeBy (bufferRefusal r m l b) r m l b
+writeOf r m l b = writeBy (writeRefusal r m l b) r m l b
 
 -- ---- read: a visit that puts the line in a 64-byte buffer b
 
@@ -94,16 +94,16 @@ readResult v =
       rank = v .now .rank;
     }
 
-unfoldable pub readBy : ℕ → Rank → List ℕ → ℕ → List ℕ → LeavesRead
-readBy zero r m l b =
-    let v : Did Device Report = visitOf (device r m) l in
+unfoldable pub readBy : ℕ → Rank → List ℕ → ℕ → ℕ → List ℕ → LeavesRead
+readBy zero r m task l b =
+    let v : Did Device Report = visitOf task (device r m) l in
     let found : List ℕ = foundLine (lineAt m l) (r .«catch_words») in
     record { result = readResult v; memory = v .now .memory; buffer = bufferBy (v .out .outcome) found b }
-readBy (suc n) r m l b =
+readBy (suc n) r m task l b =
     record { result = record { refusal = suc n; passes = 0; flagged = 0; collisions = 0; rank = r }; memory = m; buffer = b }
 
-unfoldable pub readOf : Rank → List ℕ → ℕ → List ℕ → LeavesRead
-readOf r m l b = readBy (bufferRefusal r m l b) r m l b
+unfoldable pub readOf : Rank → List ℕ → ℕ → ℕ → List ℕ → LeavesRead
+readOf r m task l b = readBy (readRefusal r m task l b) r m task l b
 
 -- ---- patrol: visits min(budget, N − first) lines from a first line upwards; a refused line doesn't stop it
 
@@ -127,27 +127,27 @@ rewrittenIn vs = sumOf (λ v. rewrittenBy (v .outcome) (v .flagged)) vs
 unfoldable pub patrolled : Rank → ℕ → ℕ → List ℕ
 patrolled r first budget = upFrom first (min budget (r .lines - first))
 
--- visits to the lines ls, one by one
-unfoldable pub patrolLines : Device → List ℕ → Leaves PatrolResult
-patrolLines d ls =
+-- visits for a task to the lines ls, one by one
+unfoldable pub patrolLines : ℕ → Device → List ℕ → Leaves PatrolResult
+patrolLines task d ls =
     record {
       result = record {
         refusal = 0;
-        visited = length (outs visitOf d ls);
-        refused = refusedIn (outs visitOf d ls);
-        rewritten = rewrittenIn (outs visitOf d ls);
-        rank = end visitOf d ls .rank;
+        visited = length (outs (visitOf task) d ls);
+        refused = refusedIn (outs (visitOf task) d ls);
+        rewritten = rewrittenIn (outs (visitOf task) d ls);
+        rank = end (visitOf task) d ls .rank;
       };
-      memory = end visitOf d ls .memory;
+      memory = end (visitOf task) d ls .memory;
     }
 
-unfoldable pub patrolBy : ℕ → Rank → List ℕ → ℕ → ℕ → Leaves PatrolResult
-patrolBy zero r m first budget = patrolLines (device r m) (patrolled r first budget)
-patrolBy (suc n) r m first budget =
+unfoldable pub patrolBy : ℕ → Rank → List ℕ → ℕ → ℕ → ℕ → Leaves PatrolResult
+patrolBy zero r m task first budget = patrolLines task (device r m) (patrolled r first budget)
+patrolBy (suc n) r m task first budget =
     record { result = record { refusal = suc n; visited = 0; refused = 0; rewritten = 0; rank = r }; memory = m }
 
-unfoldable pub patrolOf : Rank → List ℕ → ℕ → ℕ → Leaves PatrolResult
-patrolOf r m first budget = patrolBy (patrolRefusal r m first) r m first budget
+unfoldable pub patrolOf : Rank → List ℕ → ℕ → ℕ → ℕ → Leaves PatrolResult
+patrolOf r m task first budget = patrolBy (patrolRefusal r m task first) r m task first budget
 
 -- ---- renew: gives one chip a catch-word of any value, in both copies
 

@@ -41,10 +41,10 @@ module _ (m n cws : List ℕ) (lines l : ℕ) (size : length m ≡ 81 * lines) (
       line-found x (lineAt n l) cws (ap length laid ∙ length-after x cws long) (bytes-line n l after)
       (λ k h. ap (λ (y : List ℕ). wordAt y k) laid ∙ word-after x long (bytes-line m l bytes) cws answered k h)
 
-module _ (r : Rank) (m : List ℕ) (l : ℕ) (b : List ℕ) (v : Report) (e : v ≡ reportOf (lineAt m l) (r .«catch_words»)) where
+module _ (r : Rank) (m : List ℕ) (task l : ℕ) (b : List ℕ) (v : Report) (e : v ≡ reportOf (lineAt m l) (r .«catch_words»)) where
   -- refused 20 or 21
   pub read-visit-refused : (n : ℕ) → v .outcome ≡ Refused n
-      → readBy 0 r m l b
+      → readBy 0 r m task l b
       ≡ record {
         result = record {
           refusal = refusalOf (v .outcome);
@@ -58,7 +58,7 @@ module _ (r : Rank) (m : List ℕ) (l : ℕ) (b : List ℕ) (v : Report) (e : v 
         buffer = b;
       }
   unfolding readBy visitOf readResult bufferBy
-  read-visit-refused n o = by-report v e ∙ ap₂ (left v) (settled-refused v r n o)
+  read-visit-refused n o = by-report v e ∙ ap₂ (left v) (settled-refused task v r n o)
       (ap (λ (x : Outcome). bufferBy x (foundLine (lineAt m l) (r .«catch_words»)) b) o)
     where
       left : Report → Rank → List ℕ → LeavesRead
@@ -76,14 +76,14 @@ module _ (r : Rank) (m : List ℕ) (l : ℕ) (b : List ℕ) (v : Report) (e : v 
           }
 
       by-report : (w : Report) → w ≡ reportOf (lineAt m l) (r .«catch_words»)
-          → readBy 0 r m l b ≡ left w (settled w r) (bufferBy (w .outcome) (foundLine (lineAt m l) (r .«catch_words»)) b)
-      by-report w f = ap (λ (z : Report). left z (settled z r) (bufferBy (z .outcome) (foundLine (lineAt m l) (r .«catch_words»)) b))
+          → readBy 0 r m task l b ≡ left w (settled task w r) (bufferBy (w .outcome) (foundLine (lineAt m l) (r .«catch_words»)) b)
+      by-report w f = ap (λ (z : Report). left z (settled task z r) (bufferBy (z .outcome) (foundLine (lineAt m l) (r .«catch_words»)) b))
           (sym f)
 
   pub read-visit-answered : v .outcome ≡ Answered
-      → readBy 0 r m l b
+      → readBy 0 r m task l b
       ≡ record {
-        result = record { refusal = 0; passes = v .passes; flagged = v .flagged; collisions = v .collisions; rank = settled v r };
+        result = record { refusal = 0; passes = v .passes; flagged = v .flagged; collisions = v .collisions; rank = settled task v r };
         memory = withLine m l (bytesAfter (lineAt m l) (r .«catch_words»));
         buffer = foundLine (lineAt m l) (r .«catch_words»);
       }
@@ -95,7 +95,7 @@ module _ (r : Rank) (m : List ℕ) (l : ℕ) (b : List ℕ) (v : Report) (e : v 
       left : Report → ℕ → List ℕ → LeavesRead
       left w q x =
           record {
-            result = record { refusal = q; passes = w .passes; flagged = w .flagged; collisions = w .collisions; rank = settled w r };
+            result = record { refusal = q; passes = w .passes; flagged = w .flagged; collisions = w .collisions; rank = settled task w r };
             memory = withLine m l (bytesAfter (lineAt m l) (r .«catch_words»));
             buffer = x;
           }

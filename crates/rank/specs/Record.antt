@@ -1,4 +1,5 @@
--- Document 01, "The rank" (the record) and "A visit to a line", step 6 (what a visit does to it). r stands for the record.
+-- Document 01, "The rank" (the record) and "A visit to a line", step 6 (what a visit does to it); document 02, Req 01 (repairs by task).
+-- r stands for the record.
 -- Definitions alone.
 use Prim.Native.Nat.{ℕ, _+_, _%_, _^_, min}
 use mathlib.Core.Bool.{Bool, true, false, cond}
@@ -6,7 +7,7 @@ use mathlib.Core.List.{List}
 use lib.Bits.{bitOr}
 use lib.Count.{ones}
 use lib.Dec.{eqb}
-use lib.ListN.{getD, replicate}
+use lib.ListN.{getD, set, replicate}
 use Rattle.line.specs.Chips.{ofChips, inMask}
 use Rattle.line.specs.declared.Report.{Report}
 use Rattle.line.specs.declared.Outcome.{Outcome}
@@ -21,17 +22,21 @@ lineLimit = 65536
 abbrev pub catchWordStep : ℕ
 catchWordStep = 11400714819323198485
 
--- the repair total stays at 4,294,967,295 once there
+-- eight tasks, 0 to 7, each with a repair total of its own
+abbrev pub taskLimit : ℕ
+taskLimit = 8
+
+-- a repair total stays at 4,294,967,295 once there
 abbrev pub totalLimit : ℕ
 totalLimit = 4294967295
 
 -- its fresh value: every field zero
 unfoldable pub fresh : Rank
-fresh = record { lines = 0; enable = false; «catch_words» = replicate 9 0; registers = replicate 9 0; repairs = 0 }
+fresh = record { lines = 0; enable = false; «catch_words» = replicate 9 0; registers = replicate 9 0; repairs = replicate 8 0 }
 
--- the record of an accepted boot of n lines: N and Enable set, the catch-words in both copies, total 0
+-- the record of an accepted boot of n lines: N and Enable set, the catch-words in both copies, each total 0
 unfoldable pub booted : ℕ → List ℕ → Rank
-booted n cws = record { lines = n; enable = true; «catch_words» = cws; registers = cws; repairs = 0 }
+booted n cws = record { lines = n; enable = true; «catch_words» = cws; registers = cws; repairs = replicate 8 0 }
 
 -- a catch-word or register grows by the step, the carry out of 64 bits dropped
 unfoldable pub grown : ℕ → ℕ
@@ -41,22 +46,26 @@ grown w = (w + catchWordStep) % 2 ^ 64
 unfoldable pub moved : ℕ → List ℕ → List ℕ
 moved collisions ws = ofChips (λ k. cond (inMask collisions k) (grown (getD ws k 0)) (getD ws k 0)) 9
 
--- 6. After an answered visit each colliding chip's catch-word and register grow, and the total grows by the flagged chips. Apart from
--- that growth the record is as it was, after a refusal too.
-unfoldable pub settledBy : Outcome → Report → Rank → Rank
-settledBy Answered v r =
+-- the totals after n more repairs for a task: only that task's moves
+unfoldable pub counted : ℕ → ℕ → List ℕ → List ℕ
+counted task n totals = set totals task (min (getD totals task 0 + n) totalLimit)
+
+-- 6. After an answered visit each colliding chip's catch-word and register grow, and the total of the task that the call names grows by the
+-- flagged chips. Apart from that growth the record is as it was, after a refusal too.
+unfoldable pub settledBy : ℕ → Outcome → Report → Rank → Rank
+settledBy task Answered v r =
     record {
       lines = r .lines;
       enable = r .enable;
       «catch_words» = moved (v .collisions) (r .«catch_words»);
       registers = moved (v .collisions) (r .registers);
-      repairs = min (r .repairs + ones (v .flagged)) totalLimit;
+      repairs = counted task (ones (v .flagged)) (r .repairs);
     }
-settledBy (Refused number) v r = r
+settledBy task (Refused number) v r = r
 
--- the record after a visit that reports v
-unfoldable pub settled : Report → Rank → Rank
-settled v r = settledBy (v .outcome) v r
+-- the record after a visit for a task that reports v
+unfoldable pub settled : ℕ → Report → Rank → Rank
+settled task v r = settledBy task (v .outcome) v r
 
 -- not of document 01: an answered visit that reports no chip, after which there is nothing to count
 abbrev pub stillBy : Outcome → Bool → Bool

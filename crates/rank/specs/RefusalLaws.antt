@@ -12,20 +12,29 @@ use lib.ListN.{length}
 use borrow.Author.Tests.{ltb-true, ltb-false, leb-true, leb-false, eqb-true, eqb-false, not-false, lt-ltb, le-ltb, le-leb, lt-leb, eq-eqb, ne-eqb}
 use Rattle.line.specs.ChipLaws.{and-second}
 use Rattle.rank.specs.declared.Rank.{Rank}
-use Rattle.rank.specs.Refusals.{lineOut, bufferOut, chipOut, patternOut, catchWordsOut, memoryOut, notReady, memoryDiffers, registerDiffers, refusedIf, firstOf, stateRefusals, lineRefusals, bootRefusal, bufferRefusal, patrolRefusal, renewRefusal, faultRefusal}
+use Rattle.rank.specs.Refusals.{lineOut, bufferOut, chipOut, patternOut, catchWordsOut, memoryOut, notReady, memoryDiffers, registerDiffers, taskOut, refusedIf, firstOf, stateRefusals, lineRefusals, visitRefusals, bootRefusal, writeRefusal, readRefusal, patrolRefusal, renewRefusal, faultRefusal}
 
 -- ---- the first of several
 
--- some refusals, and others after them
-pub first-of-both : (xs ys : List ℕ) → firstOf xs ≢ 0 → firstOf (xs ++ ys) ≡ firstOf xs
-first-of-both [] ys h = absurd (h refl)
-first-of-both (zero ∷ xs) ys h = first-of-both xs ys h
-first-of-both (suc n ∷ xs) ys h = refl
+pub first-alone : (n : ℕ) → firstOf (n ∷ []) ≡ n
+first-alone zero = refl
+first-alone (suc n) = refl
 
-pub first-of-rest : (xs ys : List ℕ) → firstOf xs ≡ 0 → firstOf (xs ++ ys) ≡ firstOf ys
-first-of-rest [] ys e = refl
-first-of-rest (zero ∷ xs) ys e = first-of-rest xs ys e
-first-of-rest (suc n ∷ xs) ys e = absurd (suc-ne-zero n e)
+pub first-came : (n : ℕ) (ns : List ℕ) → n ≢ 0 → firstOf (n ∷ ns) ≡ n
+first-came zero ns h = absurd (h refl)
+first-came (suc n) ns h = refl
+
+-- some refusals, and others after them
+first-of-both : (xs ys : List ℕ) → firstOf (firstOf xs ∷ ys) ≡ firstOf (xs ++ ys)
+first-of-both [] ys = refl
+first-of-both (zero ∷ xs) ys = first-of-both xs ys
+first-of-both (suc n ∷ xs) ys = refl
+
+-- some refusals, whose first is n, and one more after them
+pub first-more : (xs : List ℕ) (n : ℕ) (a b : Bool) (number : ℕ) → n ≡ firstOf xs → a ≡ b
+    → firstOf (n ∷ refusedIf a number ∷ []) ≡ firstOf (xs ++ (refusedIf b number ∷ []))
+first-more xs n a b number e c =
+    ap₂ (λ (k : ℕ) (t : Bool). firstOf (k ∷ refusedIf t number ∷ [])) e c ∙ first-of-both xs (refusedIf b number ∷ [])
 
 -- where no refusal came, the first condition does not hold, and none came of the rest
 none-held : (b : Bool) (n : ℕ) (ns : List ℕ) → firstOf (refusedIf b (suc n) ∷ ns) ≡ 0 → (b ≡ false) × (firstOf ns ≡ 0)
@@ -33,6 +42,14 @@ none-held true n ns e = absurd (suc-ne-zero n e)
 none-held false n ns e = (refl, e)
 
 -- ---- a comparison as a condition
+
+-- not below is at least
+pub at-least : (a b : ℕ) → leb b a ≡ not (ltb a b)
+at-least a b = pick (leb b a) refl
+  where
+    pick : (t : Bool) → leb b a ≡ t → t ≡ not (ltb a b)
+    pick true e = sym (ap not (le-ltb a b (leb-true b a e)))
+    pick false e = sym (ap not (lt-ltb a b (leb-false b a e)))
 
 pub not-below : (a b : ℕ) → b ≤ a → not (ltb a b) ≡ true
 not-below a b h = ap not (le-ltb a b h)
@@ -119,18 +136,37 @@ module _ (r : Rank) (m : List ℕ) where
       let x = none-held (lineOut r l) 0 ns (s .1) in
       (s .0, is-below l (r .lines) (x .0), x .1)
 
-  -- write and read
-  pub buffer-passed : (l : ℕ) (b : List ℕ) → bufferRefusal r m l b ≡ 0 → Sized r m × (l < r .lines) × (length b ≡ 64)
-  unfolding bufferRefusal bufferOut
-  buffer-passed l b e =
-      let s = line-passed l (refusedIf (bufferOut b) 2 ∷ []) e in
-      (s .0, s .1, is-equal (length b) 64 (none-held (bufferOut b) 1 [] (s .2) .0))
+  visit-passed : (task l : ℕ) (ns : List ℕ) → firstOf (visitRefusals r m task l ++ ns) ≡ 0
+      → Sized r m × (task < 8) × (l < r .lines) × (firstOf ns ≡ 0)
+  unfolding taskOut lineOut
+  visit-passed task l ns e =
+      let s = state-passed (refusedIf (taskOut task) 31 ∷ refusedIf (lineOut r l) 1 ∷ ns) e in
+      let x = none-held (taskOut task) 30 (refusedIf (lineOut r l) 1 ∷ ns) (s .1) in
+      let y = none-held (lineOut r l) 0 ns (x .1) in
+      (s .0, is-below task 8 (x .0), is-below l (r .lines) (y .0), y .1)
 
-  pub patrol-passed : (l : ℕ) → patrolRefusal r m l ≡ 0 → Sized r m × (l < r .lines)
+  buffer-is : (b : List ℕ) → firstOf (refusedIf (bufferOut b) 2 ∷ []) ≡ 0 → length b ≡ 64
+  unfolding bufferOut
+  buffer-is b e = is-equal (length b) 64 (none-held (bufferOut b) 1 [] e .0)
+
+  pub write-passed : (l : ℕ) (b : List ℕ) → writeRefusal r m l b ≡ 0 → Sized r m × (l < r .lines) × (length b ≡ 64)
+  unfolding writeRefusal
+  write-passed l b e =
+      let s = line-passed l (refusedIf (bufferOut b) 2 ∷ []) e in
+      (s .0, s .1, buffer-is b (s .2))
+
+  pub read-passed : (task l : ℕ) (b : List ℕ) → readRefusal r m task l b ≡ 0
+      → Sized r m × (task < 8) × (l < r .lines) × (length b ≡ 64)
+  unfolding readRefusal
+  read-passed task l b e =
+      let s = visit-passed task l (refusedIf (bufferOut b) 2 ∷ []) e in
+      (s .0, s .1, s .2, buffer-is b (s .3))
+
+  pub patrol-passed : (task l : ℕ) → patrolRefusal r m task l ≡ 0 → Sized r m × (task < 8) × (l < r .lines)
   unfolding patrolRefusal
-  patrol-passed l e =
-      let s = line-passed l [] e in
-      (s .0, s .1)
+  patrol-passed task l e =
+      let s = visit-passed task l [] e in
+      (s .0, s .1, s .2)
 
   pub fault-passed : (l k : ℕ) (p : List ℕ) → faultRefusal r m l k p ≡ 0 → Sized r m × (l < r .lines) × (k < 9) × (length p ≡ 9)
   unfolding faultRefusal chipOut patternOut

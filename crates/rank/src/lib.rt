@@ -11,22 +11,25 @@ mod record;
 mod refusals;
 mod sweep;
 
-// The record, held by value: N, the Enable bit, the catch-words as the controller knows them, the registers as the chips hold them, and the
-// repair total.
+// The record, held by value: N, the Enable bit, the catch-words as the controller knows them, the registers as the chips hold them, and a
+// repair total for each task.
 #[repr(C)]
 pub struct Rank {
     pub lines: u32,
     pub enable: bool,
     pub catch_words: [u64; 9],
     pub registers: [u64; 9],
-    pub repairs: u32,
+    pub repairs: [u32; 8],
 }
 
 impl Rank {
     // The most lines that a rank can have.
     pub const LINE_LIMIT: u32 = 65536;
 
-    // Where the repair total stops.
+    // Tasks are 0 to 7.
+    pub const TASK_LIMIT: u32 = 8;
+
+    // Where a repair total stops.
     pub const REPAIR_LIMIT: u32 = 4294967295;
 
     // What a colliding chip's catch-word grows by.
@@ -41,7 +44,7 @@ impl Rank {
             enable: false,
             catch_words: [0u64; 9],
             registers: [0u64; 9],
-            repairs: 0,
+            repairs: [0u32; 8],
         }
     }
 }
@@ -99,7 +102,7 @@ pub extern "C" fn rank_write(rank: Rank, memory: &mut [u8], line: u32, bytes: &[
     ensures result { λ r. ⌜ r ≡ writeOf rank (now (memory .entry)) line (now (bytes .entry)) .result ⌝ }
     ensures memory { λ _. ⌜ now (memory .exit) ≡ writeOf rank (now (memory .entry)) line (now (bytes .entry)) .memory ⌝ }
 {
-    let refusal = refusals::of_buffer(rank, memory, line, bytes);
+    let refusal = refusals::of_write(rank, memory, line, bytes);
     if refusal != 0 {
         return Called { refusal, rank };
     }
@@ -107,19 +110,20 @@ pub extern "C" fn rank_write(rank: Rank, memory: &mut [u8], line: u32, bytes: &[
     Called { refusal: 0, rank }
 }
 
-// Read: a visit that puts the line in a 64-byte buffer.
+// Read: a visit, for a task, that puts the line in a 64-byte buffer.
 #[no_mangle]
 pub extern "C" fn rank_read(
     rank: Rank,
     memory: &mut [u8],
+    task: u32,
     line: u32,
     buffer: &mut [u8],
 ) -> ReadResult
-    ensures result { λ r. ⌜ r ≡ readOf rank (now (memory .entry)) line (now (buffer .entry)) .result ⌝ }
-    ensures memory { λ _. ⌜ now (memory .exit) ≡ readOf rank (now (memory .entry)) line (now (buffer .entry)) .memory ⌝ }
-    ensures buffer { λ _. ⌜ now (buffer .exit) ≡ readOf rank (now (memory .entry)) line (now (buffer .entry)) .buffer ⌝ }
+    ensures result { λ r. ⌜ r ≡ readOf rank (now (memory .entry)) task line (now (buffer .entry)) .result ⌝ }
+    ensures memory { λ _. ⌜ now (memory .exit) ≡ readOf rank (now (memory .entry)) task line (now (buffer .entry)) .memory ⌝ }
+    ensures buffer { λ _. ⌜ now (buffer .exit) ≡ readOf rank (now (memory .entry)) task line (now (buffer .entry)) .buffer ⌝ }
 {
-    let refusal = refusals::of_buffer(rank, memory, line, buffer);
+    let refusal = refusals::of_read(rank, memory, task, line, buffer);
     if refusal != 0 {
         return ReadResult {
             refusal,
@@ -129,21 +133,22 @@ pub extern "C" fn rank_read(
             rank,
         };
     }
-    read::visit_into(rank, memory, line, buffer)
+    read::visit_into(rank, memory, task, line, buffer)
 }
 
-// Patrol (patrol scrub): visits min(budget, N − first) lines from a first line upwards. A refused line doesn't stop it.
+// Patrol (patrol scrub): visits min(budget, N − first) lines from a first line upwards, for one task. A refused line doesn't stop it.
 #[no_mangle]
 pub extern "C" fn rank_patrol(
     rank: Rank,
     memory: &mut [u8],
+    task: u32,
     first: u32,
     budget: u32,
 ) -> PatrolResult
-    ensures result { λ r. ⌜ r ≡ patrolOf rank (now (memory .entry)) first budget .result ⌝ }
-    ensures memory { λ _. ⌜ now (memory .exit) ≡ patrolOf rank (now (memory .entry)) first budget .memory ⌝ }
+    ensures result { λ r. ⌜ r ≡ patrolOf rank (now (memory .entry)) task first budget .result ⌝ }
+    ensures memory { λ _. ⌜ now (memory .exit) ≡ patrolOf rank (now (memory .entry)) task first budget .memory ⌝ }
 {
-    let refusal = refusals::of_line(rank, memory, first);
+    let refusal = refusals::of_patrol(rank, memory, task, first);
     if refusal != 0 {
         return PatrolResult {
             refusal,
@@ -155,7 +160,7 @@ pub extern "C" fn rank_patrol(
     }
     let left = rank.lines - first;
     let visited = sweep::allowance(budget, left);
-    let tally = sweep::sweep(rank, memory, first, visited);
+    let tally = sweep::sweep(rank, memory, task, first, visited);
     let after = tally.rank;
     PatrolResult {
         refusal: 0,

@@ -4,7 +4,7 @@ ghost use mathlib.Core.Bool.{cond};
 ghost use Prim.Native.Nat.{_+_, _/_, _<_, min};
 ghost use lib.ListN.{length};
 ghost use Rattle.line.specs.declared.Outcome.the-variants.{Answered};
-ghost use Rattle.rank.specs.Record.{totalLimit, booted, grown, moved, settled, isStill};
+ghost use Rattle.rank.specs.Record.{totalLimit, booted, grown, moved, counted, settled, isStill};
 ghost use Rattle.rank.specs.Calls.{renewed};
 use crate::Rank;
 use line::Outcome;
@@ -21,7 +21,7 @@ pub fn booted(memory: &[u8], catch_words: &[u64]) -> Rank
         enable: true,
         catch_words: words,
         registers: words,
-        repairs: 0,
+        repairs: [0u32; 8],
     }
 }
 
@@ -49,9 +49,10 @@ pub fn renewed(rank: Rank, chip: u32, catch_word: u64) -> Rank
     after
 }
 
-// Step 6 of a visit, for the record: only an answered line moves it.
-pub fn settle(rank: Rank, report: Report) -> Rank
-    ensures { λ r. ⌜ r ≡ settled report rank ⌝ }
+// Step 6 of a visit for a task, for the record: only an answered line moves it.
+pub fn settle(rank: Rank, task: u32, report: Report) -> Rank
+    requires { ⌜ task < 8 ⌝ }
+    ensures { λ r. ⌜ r ≡ settled task report rank ⌝ }
 {
     let outcome = report.outcome;
     let Outcome::Answered = outcome else {
@@ -59,16 +60,17 @@ pub fn settle(rank: Rank, report: Report) -> Rank
     };
     let collisions = report.collisions;
     if collisions == 0 {
-        return repaired(rank, report);
+        return repaired(rank, task, report);
     }
     let catch_words = rank.catch_words;
     let registers = rank.registers;
+    let totals = rank.repairs;
     Rank {
         lines: rank.lines,
         enable: rank.enable,
         catch_words: moved(catch_words, report.collisions),
         registers: moved(registers, report.collisions),
-        repairs: total_after(rank.repairs, u32::count_ones(report.flagged)),
+        repairs: counted(totals, task, u32::count_ones(report.flagged)),
     }
 }
 
@@ -84,13 +86,15 @@ pub fn is_still(report: Report) -> bool
     chips == 0
 }
 
-// Step 6 where an answered visit met no collision: the total is all that can grow.
-pub fn repaired(rank: Rank, report: Report) -> Rank
-    requires { ⌜ (report .outcome ≡ Answered) × (report .collisions ≡ 0) ⌝ }
-    ensures { λ r. ⌜ r ≡ settled report rank ⌝ }
+// Step 6 where an answered visit met no collision: the task's total is all that can grow.
+pub fn repaired(rank: Rank, task: u32, report: Report) -> Rank
+    requires { ⌜ (task < 8) × (report .outcome ≡ Answered) × (report .collisions ≡ 0) ⌝ }
+    ensures { λ r. ⌜ r ≡ settled task report rank ⌝ }
 {
+    let totals = rank.repairs;
     let mut after = rank;
-    after.repairs = total_after(rank.repairs, u32::count_ones(report.flagged));
+    let repairs = counted(totals, task, u32::count_ones(report.flagged));
+    after.repairs = repairs;
     after
 }
 
@@ -117,7 +121,18 @@ fn grown_if(test: bool, word: u64) -> u64
     }
 }
 
-// The repair total after some repairs. It stays at its limit once there.
+// Eight repair totals, one task's after some repairs.
+fn counted(totals: [u32; 8], task: u32, repairs: u32) -> [u32; 8]
+    requires { ⌜ task < 8 ⌝ }
+    ensures { λ r. ⌜ r ≡ counted task repairs totals ⌝ }
+{
+    let t = task as usize;
+    let mut after = totals;
+    after[t] = total_after(totals[t], repairs);
+    after
+}
+
+// A repair total after some repairs. It stays at its limit once there.
 fn total_after(total: u32, repairs: u32) -> u32
     ensures { λ r. ⌜ r ≡ min (total + repairs) totalLimit ⌝ }
 {

@@ -26,12 +26,13 @@ pub fn allowance(budget: u32, left: u32) -> u32
     if budget < left { budget } else { left }
 }
 
-// Visits n lines from a first line upwards. A refused line doesn't stop it.
-pub fn sweep(rank: Rank, memory: &mut [u8], first: u32, n: u32) -> Tally
-    requires { ⌜ (81 * (first + n) ≤ length (now memory)) × (first + n ≤ 65536) ⌝ }
-    ensures refused { λ r. ⌜ r .refused ≡ refusedIn (outs visitOf (device rank (now (memory .entry))) (upFrom first n)) ⌝ }
-    ensures rewritten { λ r. ⌜ r .rewritten ≡ rewrittenIn (outs visitOf (device rank (now (memory .entry))) (upFrom first n)) ⌝ }
-    ensures after { λ r. ⌜ device (r .rank) (now (memory .exit)) ≡ end visitOf (device rank (now (memory .entry))) (upFrom first n) ⌝ }
+// Visits n lines from a first line upwards, for one task. A refused line doesn't stop it.
+pub fn sweep(rank: Rank, memory: &mut [u8], task: u32, first: u32, n: u32) -> Tally
+    requires { ⌜ (81 * (first + n) ≤ length (now memory)) × (task < 8) × (first + n ≤ 65536) ⌝ }
+    ensures refused { λ r. ⌜ r .refused ≡ refusedIn (outs (visitOf task) (device rank (now (memory .entry))) (upFrom first n)) ⌝ }
+    ensures rewritten { λ r. ⌜ r .rewritten ≡ rewrittenIn (outs (visitOf task) (device rank (now (memory .entry))) (upFrom first n)) ⌝ }
+    ensures after { λ r. ⌜ device (r .rank) (now (memory .exit))
+        ≡ end (visitOf task) (device rank (now (memory .entry))) (upFrom first n) ⌝ }
 {
     let mut tally = Tally {
         refused: 0,
@@ -42,19 +43,19 @@ pub fn sweep(rank: Rank, memory: &mut [u8], first: u32, n: u32) -> Tally
         let report = lines::visit(memory, first + i, &tally.rank.catch_words);
         // Most lines leave nothing to count, and the record is not copied for them.
         if !record::is_still(report) {
-            tally = tallied(tally, report);
+            tally = tallied(tally, task, report);
         }
     }
     tally
 }
 
-// Counts one visit and moves the record by it.
-fn tallied(tally: Tally, report: Report) -> Tally
-    requires { ⌜ (tally .refused + 1 < 2 ^ 32) × (tally .rewritten + ones (report .flagged) < 2 ^ 32) ⌝ }
-    ensures { λ r. ⌜ r ≡ tallied tally report ⌝ }
+// Counts one visit for a task and moves the record by it.
+fn tallied(tally: Tally, task: u32, report: Report) -> Tally
+    requires { ⌜ (tally .refused + 1 < 2 ^ 32) × (tally .rewritten + ones (report .flagged) < 2 ^ 32) × (task < 8) ⌝ }
+    ensures { λ r. ⌜ r ≡ tallied task tally report ⌝ }
 {
     let before = tally.rank;
-    let rank = record::settle(before, report);
+    let rank = record::settle(before, task, report);
     let outcome = report.outcome;
     let Outcome::Answered = outcome else {
         return Tally {

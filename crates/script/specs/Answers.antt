@@ -41,10 +41,10 @@ readReply v = record { rank = v .result .rank; memory = v .memory; text = readTe
 unfoldable pub patternOf : ℕ → ℕ → List ℕ
 patternOf word check = bytesOf 8 word ++ (check ∷ [])
 
--- w (77h) writes 64 equal bytes; f (66h) xors in a pattern
+-- w (77h) writes 64 equal bytes; r reads, and the bench names task 0 (document 02, Req 01); f (66h) xors in a pattern
 unfoldable pub replyBy : Event → Rank → List ℕ → Reply
 replyBy (Write l b) r m = callReply 119 (writeOf r m l (replicate 64 b))
-replyBy (Read l) r m = readReply (readOf r m l (replicate 64 0))
+replyBy (Read l) r m = readReply (readOf r m 0 l (replicate 64 0))
 replyBy (Fault l k word check) r m = callReply 102 (faultOf r m l k (patternOf word check))
 replyBy Unknown r m = record { rank = r; memory = m; text = unknownText }
 

@@ -15,7 +15,7 @@ use Rattle.line.specs.Cells.{bytesFrom}
 use Rattle.line.specs.ByteLaws.{Bytes, number-lt, bytes-bytesFrom}
 use Rattle.line.specs.Visit.{passOne, passThree, isCandidate, isFlagged, isCollision, flaggedChips, mustCancel, outcomeBy, outcomeOf, passesOf, reportOf, refusalOf}
 use Rattle.line.specs.declared.Outcome.the-variants.{Answered, Refused}
-use Rattle.rank.specs.Refusals.{lineOut, bufferOut, chipOut, patternOut, notReady, memoryDiffers, registerDiffers, refusedIf, firstOf, stateRefusals, bufferRefusal, faultRefusal}
+use Rattle.rank.specs.Refusals.{lineOut, bufferOut, chipOut, patternOut, notReady, memoryDiffers, registerDiffers, taskOut, refusedIf, firstOf, stateRefusals, writeRefusal, readRefusal, faultRefusal}
 use Rattle.rank.specs.Lines.{lineAt}
 use Rattle.rank.specs.Calls.{visitOf, writeBy, writeOf, readResult, readBy, readOf, faultBy, faultOf}
 use Rattle.rank.specs.declared.Rank.{Rank}
@@ -38,12 +38,19 @@ state-lt : (r : Rank) (m ns : List ℕ) → Every (λ k. k < 100) ns → Every (
 unfolding Every
 state-lt r m ns h = (if-lt (notReady r) 12 (lit< tt), (if-lt (memoryDiffers r m) 13 (lit< tt), (if-lt (registerDiffers r) 14 (lit< tt), h)))
 
-buffer-lt : (r : Rank) (m : List ℕ) (l : ℕ) (b : List ℕ) → bufferRefusal r m l b < 100
-unfolding bufferRefusal Every
-buffer-lt r m l b =
+write-lt : (r : Rank) (m : List ℕ) (l : ℕ) (b : List ℕ) → writeRefusal r m l b < 100
+unfolding writeRefusal Every
+write-lt r m l b =
     first-lt (stateRefusals r m ++ (refusedIf (lineOut r l) 1 ∷ refusedIf (bufferOut b) 2 ∷ []))
     (state-lt r m (refusedIf (lineOut r l) 1 ∷ refusedIf (bufferOut b) 2 ∷ [])
     (if-lt (lineOut r l) 1 (lit< tt), (if-lt (bufferOut b) 2 (lit< tt), tt)))
+
+read-lt : (r : Rank) (m : List ℕ) (task l : ℕ) (b : List ℕ) → readRefusal r m task l b < 100
+unfolding readRefusal Every
+read-lt r m task l b =
+    first-lt (stateRefusals r m ++ (refusedIf (taskOut task) 31 ∷ refusedIf (lineOut r l) 1 ∷ refusedIf (bufferOut b) 2 ∷ []))
+    (state-lt r m (refusedIf (taskOut task) 31 ∷ refusedIf (lineOut r l) 1 ∷ refusedIf (bufferOut b) 2 ∷ [])
+    (if-lt (taskOut task) 31 (lit< tt), (if-lt (lineOut r l) 1 (lit< tt), (if-lt (bufferOut b) 2 (lit< tt), tt))))
 
 fault-lt : (r : Rank) (m : List ℕ) (l k : ℕ) (p : List ℕ) → faultRefusal r m l k p < 100
 unfolding faultRefusal Every
@@ -59,7 +66,7 @@ write-by (suc n) r m l b h = h
 
 pub write-small : (r : Rank) (m : List ℕ) (l : ℕ) (b : List ℕ) → writeOf r m l b .result .refusal < 100
 unfolding writeOf
-write-small r m l b = write-by (bufferRefusal r m l b) r m l b (buffer-lt r m l b)
+write-small r m l b = write-by (writeRefusal r m l b) r m l b (write-lt r m l b)
 
 fault-by : (n : ℕ) (r : Rank) (m : List ℕ) (l k : ℕ) (p : List ℕ) → n < 100 → faultBy n r m l k p .result .refusal < 100
 unfolding faultBy
@@ -98,9 +105,9 @@ passes-lt false false = lit< tt
 three-digits : (p : ℕ → Bool) → mask p 9 < 4096
 three-digits p = let h = mask-lt p 9 in omega arith
 
-read-by : (n : ℕ) (r : Rank) (m : List ℕ) (l : ℕ) (b : List ℕ) → n < 100 → Small (readBy n r m l b .result)
+read-by : (n : ℕ) (r : Rank) (m : List ℕ) (task l : ℕ) (b : List ℕ) → n < 100 → Small (readBy n r m task l b .result)
 unfolding readBy readResult visitOf reportOf outcomeOf passesOf
-read-by zero r m l b h =
+read-by zero r m task l b h =
     record {
       refusal = outcome-lt (flaggedChips (lineAt m l) (r .«catch_words»)) (lineAt m l) (r .«catch_words»);
       passes =
@@ -108,11 +115,11 @@ read-by zero r m l b h =
       flagged = three-digits (isFlagged (lineAt m l) (r .«catch_words»));
       collisions = three-digits (isCollision (lineAt m l) (r .«catch_words»));
     }
-read-by (suc n) r m l b h = record { refusal = h; passes = lit< tt; flagged = lit< tt; collisions = lit< tt }
+read-by (suc n) r m task l b h = record { refusal = h; passes = lit< tt; flagged = lit< tt; collisions = lit< tt }
 
-pub read-small : (r : Rank) (m : List ℕ) (l : ℕ) (b : List ℕ) → Small (readOf r m l b .result)
+pub read-small : (r : Rank) (m : List ℕ) (task l : ℕ) (b : List ℕ) → Small (readOf r m task l b .result)
 unfolding readOf
-read-small r m l b = read-by (bufferRefusal r m l b) r m l b (buffer-lt r m l b)
+read-small r m task l b = read-by (readRefusal r m task l b) r m task l b (read-lt r m task l b)
 
 -- the first word of a line's bytes has at most sixteen digits
 pub word-small : (b : List ℕ) → Bytes b → 8 ≤ length b → firstWord b < 2 ^ 64

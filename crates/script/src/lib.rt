@@ -76,15 +76,15 @@ fn answer_write(
     }
 }
 
-// Reads a line.
+// Reads a line. The bench names task 0 (document 02, Req 01).
 fn answer_read(rank: Rank, memory: &mut [u8], line: u32, out: &mut [u8], at: usize) -> Answered
     requires { ⌜ at + 32 ≤ length (now out) ⌝ }
-    ensures reply { λ r. ⌜ Replies (readReply (readOf rank (now (memory .entry)) line (replicate 64 0)))
+    ensures reply { λ r. ⌜ Replies (readReply (readOf rank (now (memory .entry)) 0 line (replicate 64 0)))
         r (now (memory .exit)) at (now (out .entry)) (now (out .exit)) ⌝ }
     ensures most { λ r. ⌜ r .length ≤ at + 32 ⌝ }
 {
     let mut buffer = [0u8; 64];
-    let read = rank::rank_read(rank, memory, line, &mut buffer);
+    let read = rank::rank_read(rank, memory, 0, line, &mut buffer);
     let after = read.rank;
     let refusal = read.refusal;
     if refusal != 0 {

@@ -1,37 +1,28 @@
 // The calls on a rank of four lines. A trial says what a call returns and leaves: the memory before and after is made by `layout`. Trial
-// i has a line of its own, and the other lines are clear.
+// i has a line of its own, and the other lines are clear. It names task i modulo 8, and the other seven totals should stay.
 use super::layout::CATCH_WORDS;
 use super::layout::chip_bit;
 use super::layout::inverted;
 use super::layout::laid;
 use super::layout::line_bytes;
+use super::layout::only;
+use super::layout::two_inverted;
 use super::layout::with_line;
 use super::layout::with_wide;
 use super::layout::words_of;
 use super::results;
-use rank::Rank;
+use super::results::task_of;
+use super::results::totals;
+use super::states::fault_leaves;
+use super::states::holding;
+use super::states::patrol_leaves;
+use super::states::read_leaves;
+use super::states::read_refused;
+use super::states::renew_gives;
+use super::states::write_leaves;
 
 // What a colliding chip's catch-word grows by.
 const STEP: u64 = 0x9e37_79b9_7f4a_7c15;
-
-// A record and a memory.
-struct State {
-    record: Rank,
-    memory: [u8; 324],
-}
-
-// The catch-words in both copies, a repair total, and a memory.
-fn holding(catch_words: [u64; 9], repairs: u32, memory: [u8; 324]) -> State {
-    State {
-        record: results::record(4, catch_words, repairs),
-        memory,
-    }
-}
-
-// A memory with one line that is not clear.
-fn only(line: u64, bytes: [u8; 81]) -> [u8; 324] {
-    with_line([0u8; 324], line, bytes)
-}
 
 // Whether a line that is written is laid, and the other lines stay, of which one is not clear.
 pub fn writes(i: u64) -> bool {
@@ -39,10 +30,10 @@ pub fn writes(i: u64) -> bool {
     let before = only(i / 4, laid(words_of(i / 4 + 500)));
     let after = with_line(before, i, laid(words));
     write_leaves(
-        holding(CATCH_WORDS, 5, before),
+        holding(CATCH_WORDS, totals(i, 5), before),
         (i % 4) as u32,
         line_bytes(words),
-        holding(CATCH_WORDS, 5, after),
+        holding(CATCH_WORDS, totals(i, 5), after),
     )
 }
 
@@ -52,9 +43,9 @@ pub fn reads_damaged(i: u64) -> bool {
     let sound = only(i, laid(words));
     let damaged = only(i, inverted(laid(words), i));
     let line = (i % 4) as u32;
-    let before = holding(CATCH_WORDS, 5, damaged);
+    let before = holding(CATCH_WORDS, totals(i, 5), damaged);
     fault_leaves(
-        holding(CATCH_WORDS, 5, sound),
+        holding(CATCH_WORDS, totals(i, 5), sound),
         line,
         (i / 72 % 9) as u32,
         pattern_of(i),
@@ -62,9 +53,10 @@ pub fn reads_damaged(i: u64) -> bool {
     )
         && read_leaves(
             before,
+            task_of(i),
             line,
             [0, 2, chip_bit(i / 72), 0],
-            holding(CATCH_WORDS, 6, sound),
+            holding(CATCH_WORDS, totals(i, 6), sound),
             line_bytes(words),
         )
 }
@@ -79,8 +71,12 @@ fn pattern_of(i: u64) -> [u8; 9] {
 // Whether a read is refused 20, and changes nothing, where the codeword of word 1 is the pattern of chip i.
 pub fn refuses_parity(i: u64) -> bool {
     let words = words_of(i);
-    let before = holding(CATCH_WORDS, 5, only(2, laid(words)));
-    let damaged = holding(CATCH_WORDS, 5, only(2, laid(other_word(words, i))));
+    let before = holding(CATCH_WORDS, totals(i, 5), only(2, laid(words)));
+    let damaged = holding(
+        CATCH_WORDS,
+        totals(i, 5),
+        only(2, laid(other_word(words, i))),
+    );
     fault_leaves(
         before,
         2,
@@ -88,7 +84,7 @@ pub fn refuses_parity(i: u64) -> bool {
         [0, 0, 0, 0, 0, 0, 0, 1, 7],
         damaged,
     )
-        && read_refused(damaged, 2, [20, 1, 0, 0])
+        && read_refused(damaged, task_of(i), 2, [20, 1, 0, 0])
 }
 
 // Words of which one has its lowest bit inverted.
@@ -108,11 +104,17 @@ pub fn refused_moves_none(i: u64) -> bool {
     let words = words_of(i);
     let k = (i % 9) as usize;
     let met = replaced(CATCH_WORDS, i, words[k]);
-    let parity = holding(met, 5, only(2, laid(other_word(words, i % 9 + 1))));
-    let mended = holding(met, 5, only(2, beyond_repair(laid(words), i)));
-    read_refused(parity, 2, [20, 2, 0, chip_bit(i)])
+    let parity = only(2, laid(other_word(words, i % 9 + 1)));
+    let mended = only(2, beyond_repair(laid(words), i));
+    read_refused(
+        holding(met, totals(i, 5), parity),
+        task_of(i),
+        2,
+        [20, 2, 0, chip_bit(i)],
+    )
         && read_refused(
-            mended,
+            holding(met, totals(i, 5), mended),
+            task_of(i),
             2,
             [
                 21,
@@ -135,12 +137,12 @@ pub fn moves(i: u64) -> bool {
     let met = replaced(CATCH_WORDS, i, words[k]);
     let moved = replaced(CATCH_WORDS, i, grown(words[k]));
     renew_gives(
-        results::record(4, CATCH_WORDS, 5),
+        results::record(4, CATCH_WORDS, totals(i, 5)),
         (i % 9) as u32,
         words[k],
-        results::record(4, met, 5),
+        results::record(4, met, totals(i, 5)),
     )
-        && collides(words, met, moved, chip_bit(i))
+        && collides(i, words, met, moved, chip_bit(i))
 }
 
 fn grown(word: u64) -> u64 {
@@ -156,32 +158,33 @@ pub fn renews(i: u64) -> bool {
         0xffff_ffff_ffff_ffff
     };
     renew_gives(
-        results::record(lines, CATCH_WORDS, 5),
+        results::record(lines, CATCH_WORDS, totals(i, 5)),
         (i % 9) as u32,
         catch_word,
-        results::record(lines, replaced(CATCH_WORDS, i, catch_word), 5),
+        results::record(lines, replaced(CATCH_WORDS, i, catch_word), totals(i, 5)),
     )
 }
 
-// Whether all nine catch-words move, eight of them with a carry out.
+// Whether all nine catch-words move, eight of them with a carry out. The reads name task 7.
 pub fn all_move() -> bool {
     let words = replaced([0xffff_ffff_ffff_ffff; 9], 8, 0);
     let moved = replaced([0x9e37_79b9_7f4a_7c14; 9], 8, STEP);
-    collides(words, words, moved, 0x1ff)
+    collides(7, words, words, moved, 0x1ff)
 }
 
 // Whether the first read of a line has these collisions and moves the catch-words, and the next has none.
-fn collides(words: [u64; 9], met: [u64; 9], moved: [u64; 9], mask: u32) -> bool {
+fn collides(i: u64, words: [u64; 9], met: [u64; 9], moved: [u64; 9], mask: u32) -> bool {
     let memory = only(1, laid(words));
-    let after = holding(moved, 5, memory);
+    let after = holding(moved, totals(i, 5), memory);
     read_leaves(
-        holding(met, 5, memory),
+        holding(met, totals(i, 5), memory),
+        task_of(i),
         1,
         [0, 2, 0, mask],
         after,
         line_bytes(words),
     )
-        && read_leaves(after, 1, [0, 1, 0, 0], after, line_bytes(words))
+        && read_leaves(after, task_of(i), 1, [0, 1, 0, 0], after, line_bytes(words))
 }
 
 // Whether a read moves chip i's catch-word and repairs the chips after it, where chip i is a collision and one or two have a bit inverted.
@@ -200,10 +203,11 @@ fn repairs_beside(i: u64, damaged: [u8; 81], numbers: [u32; 4], repairs: u32) ->
     let met = replaced(CATCH_WORDS, i, words[k]);
     let moved = replaced(CATCH_WORDS, i, grown(words[k]));
     read_leaves(
-        holding(met, 5, only(1, damaged)),
+        holding(met, totals(i, 5), only(1, damaged)),
+        task_of(i),
         1,
         numbers,
-        holding(moved, repairs, only(1, laid(words))),
+        holding(moved, totals(i, repairs), only(1, laid(words))),
         line_bytes(words),
     )
 }
@@ -216,35 +220,13 @@ pub fn repairs_three(i: u64) -> bool {
     let damaged = inverted(inverted(inverted(laid(words), i), second), third);
     let flagged = chip_bit(i / 72) | chip_bit(second / 72) | chip_bit(third / 72);
     read_leaves(
-        holding(CATCH_WORDS, 5, only(i, damaged)),
+        holding(CATCH_WORDS, totals(i, 5), only(i, damaged)),
+        task_of(i),
         (i % 4) as u32,
         [0, 3, flagged, 0],
-        holding(CATCH_WORDS, 8, only(i, laid(words))),
+        holding(CATCH_WORDS, totals(i, 8), only(i, laid(words))),
         line_bytes(words),
     )
-}
-
-// Whether the repair total grows by two where two chips are mended, by a read and by a patrol, and stays at its most.
-pub fn counts_repairs(i: u64) -> bool {
-    match i % 4 {
-        0 => total_grows(0, 2),
-        1 => total_grows(4294967293, 4294967295),
-        2 => total_grows(4294967294, 4294967295),
-        _ => total_grows(4294967295, 4294967295),
-    }
-}
-
-fn total_grows(before: u32, after: u32) -> bool {
-    let words = words_of(0);
-    let damaged = holding(CATCH_WORDS, before, only(0, two_inverted(laid(words))));
-    let repaired = holding(CATCH_WORDS, after, only(0, laid(words)));
-    read_leaves(damaged, 0, [0, 3, 0x101, 0], repaired, line_bytes(words))
-        && patrol_leaves(damaged, 0, 1, [0, 1, 0, 2], repaired)
-}
-
-// A line with one bit inverted in chip 0 and one in chip 8.
-fn two_inverted(line: [u8; 81]) -> [u8; 81] {
-    inverted(inverted(line, 0), 640)
 }
 
 // Whether a patrol repairs what it visits: line 1 has one chip damaged, line 2 can't be mended, and line 3 has two chips damaged.
@@ -254,15 +236,16 @@ pub fn patrols(i: u64) -> bool {
     let damaged = with_line(with_line(rest, 1, inverted(line, 3)), 3, two_inverted(line));
     let first = with_line(damaged, 1, line);
     patrol_repairs(
+        i,
         damaged,
         0,
         4294967295,
         [0, 4, 1, 3],
         with_line(first, 3, line),
     )
-        && patrol_repairs(damaged, 0, 3, [0, 3, 1, 1], first)
-        && patrol_repairs(damaged, 2, 2, [0, 2, 1, 2], with_line(damaged, 3, line))
-        && patrol_repairs(damaged, 2, 1, [0, 1, 1, 0], damaged)
+        && patrol_repairs(i, damaged, 0, 3, [0, 3, 1, 1], first)
+        && patrol_repairs(i, damaged, 2, 2, [0, 2, 1, 2], with_line(damaged, 3, line))
+        && patrol_repairs(i, damaged, 2, 1, [0, 1, 1, 0], damaged)
 }
 
 // Whether a patrol counts line 1, refused 20, and line 2, refused 21, and leaves both as they are, and moves no catch-word where both
@@ -274,13 +257,18 @@ pub fn patrols_refused(i: u64) -> bool {
     let rest = with_line(parity, 2, beyond_repair(line, i));
     let damaged = with_line(rest, 3, two_inverted(line));
     let k = ((i % 9 + 3) % 9) as usize;
-    let met = holding(replaced(CATCH_WORDS, i % 9 + 3, words[k]), 5, damaged);
-    patrol_repairs(damaged, 0, 4, [0, 4, 2, 2], with_line(rest, 3, line))
-        && patrol_leaves(met, 1, 2, [0, 2, 2, 0], met)
+    let met = holding(
+        replaced(CATCH_WORDS, i % 9 + 3, words[k]),
+        totals(i, 5),
+        damaged,
+    );
+    patrol_repairs(i, damaged, 0, 4, [0, 4, 2, 2], with_line(rest, 3, line))
+        && patrol_leaves(met, task_of(i), 1, 2, [0, 2, 2, 0], met)
 }
 
-// Whether the repair total grows by the words rewritten, too.
+// Whether the task's repair total grows by the words rewritten, too.
 fn patrol_repairs(
+    i: u64,
     before: [u8; 324],
     first: u32,
     budget: u32,
@@ -288,11 +276,12 @@ fn patrol_repairs(
     after: [u8; 324],
 ) -> bool {
     patrol_leaves(
-        holding(CATCH_WORDS, 0, before),
+        holding(CATCH_WORDS, totals(i, 0), before),
+        task_of(i),
         first,
         budget,
         numbers,
-        holding(CATCH_WORDS, numbers[3], after),
+        holding(CATCH_WORDS, totals(i, numbers[3]), after),
     )
 }
 
@@ -303,69 +292,29 @@ pub fn patrol_moves(i: u64) -> bool {
     let once = grown(words[k]);
     let second = replaced(replaced([0u64; 9], i, once), i % 9 + 1, once);
     let memory = with_line(only(1, laid(words)), 2, laid(second));
-    let before = holding(replaced(CATCH_WORDS, i, words[k]), 5, memory);
-    let after = holding(replaced(CATCH_WORDS, i, grown(once)), 5, memory);
-    patrol_leaves(before, 0, 4, [0, 4, 0, 0], after)
+    let before = holding(replaced(CATCH_WORDS, i, words[k]), totals(i, 5), memory);
+    let after = holding(replaced(CATCH_WORDS, i, grown(once)), totals(i, 5), memory);
+    patrol_leaves(before, task_of(i), 0, 4, [0, 4, 0, 0], after)
 }
 
 // Whether document 01's example of program `bench` ends as it says: of a line of 64 bytes 11h chips 3 and 5 are damaged, and it is
-// refused 21.
+// refused 21. The bench names task 0.
 pub fn example() -> bool {
     let moved = replaced([0xaf48_8aca_905b_8d26; 9], 8, 0x1111_1111_1111_1111);
     let line = laid(replaced([0x1111_1111_1111_1111; 9], 8, 0));
-    let first = holding(moved, 1, only(0, with_wide(line, 3)));
-    let second = holding(moved, 1, only(0, inverted(with_wide(line, 3), 416)));
+    let first = holding(moved, totals(0, 1), only(0, with_wide(line, 3)));
+    let second = holding(
+        moved,
+        totals(0, 1),
+        only(0, inverted(with_wide(line, 3), 416)),
+    );
     fault_leaves(
-        holding(moved, 1, only(0, line)),
+        holding(moved, totals(0, 1), only(0, line)),
         0,
         3,
         [0, 0, 0, 0, 0, 0, 0, 0, 7],
         first,
     )
         && fault_leaves(first, 0, 5, [0, 0, 0, 0, 0, 0, 0, 1, 0], second)
-        && read_refused(second, 0, [21, 3, 0x028, 0])
-}
-
-// What each call returns and leaves.
-fn write_leaves(before: State, line: u32, bytes: [u8; 64], after: State) -> bool {
-    let mut memory = before.memory;
-    let left = after.memory;
-    let called = rank::rank_write(before.record, &mut memory, line, &bytes);
-    results::called_is(called, 0, after.record) && same(&memory, &left)
-}
-
-fn fault_leaves(before: State, line: u32, chip: u32, pattern: [u8; 9], after: State) -> bool {
-    let mut memory = before.memory;
-    let left = after.memory;
-    let called = rank::rank_fault(before.record, &mut memory, line, chip, &pattern);
-    results::called_is(called, 0, after.record) && same(&memory, &left)
-}
-
-fn renew_gives(before: Rank, chip: u32, catch_word: u64, after: Rank) -> bool {
-    results::called_is(rank::rank_renew(before, chip, catch_word), 0, after)
-}
-
-fn read_refused(before: State, line: u32, numbers: [u32; 4]) -> bool {
-    read_leaves(before, line, numbers, before, [0x5au8; 64])
-}
-
-fn read_leaves(before: State, line: u32, numbers: [u32; 4], after: State, bytes: [u8; 64]) -> bool {
-    let mut memory = before.memory;
-    let mut buffer = [0x5au8; 64];
-    let left = after.memory;
-    let read = rank::rank_read(before.record, &mut memory, line, &mut buffer);
-    results::read_is(read, numbers, after.record)
-        && same(&memory, &left)
-        && check::same(&buffer, &bytes)
-}
-
-fn patrol_leaves(before: State, first: u32, budget: u32, numbers: [u32; 4], after: State) -> bool {
-    let mut memory = before.memory;
-    let left = after.memory;
-    let patrolled = rank::rank_patrol(before.record, &mut memory, first, budget);
-    results::patrol_is(patrolled, numbers, after.record) && same(&memory, &left)
-}
-
-fn same(a: &[u8; 324], b: &[u8; 324]) -> bool {
-    check::same(a, b)
+        && read_refused(second, 0, 0, [21, 3, 0x028, 0])
 }

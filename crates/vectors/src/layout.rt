@@ -71,6 +71,11 @@ pub fn with_line(memory: [u8; 324], line: u64, bytes: [u8; 81]) -> [u8; 324] {
     out
 }
 
+// A clear memory of four lines with one of them replaced.
+pub fn only(line: u64, bytes: [u8; 81]) -> [u8; 324] {
+    with_line([0u8; 324], line, bytes)
+}
+
 // A word's bytes, highest first, and then its check byte.
 fn cell_byte(word: u64, i: usize) -> u8 {
     if 7 < i {
@@ -85,6 +90,11 @@ pub fn inverted(bytes: [u8; 81], bit: u64) -> [u8; 81] {
     let i = (bit % 648 / 8) as usize;
     out[i] = out[i] ^ (1 << (bit % 8));
     out
+}
+
+// A line with one bit inverted in chip 0 and one in chip 8.
+pub fn two_inverted(line: [u8; 81]) -> [u8; 81] {
+    inverted(inverted(line, 0), 640)
 }
 
 // A line with 07h on the check byte of a chip: damage of which M is 1.

@@ -9,6 +9,8 @@ mod large;
 mod layout;
 mod refusals;
 mod results;
+mod states;
+mod tasks;
 mod visits;
 
 // What is tried. Trials of a kind are numbered from 0.
@@ -37,6 +39,8 @@ enum Trial {
     AllCollide,
     // A call with every set of the conditions that it is refused for.
     Refused(Call),
+    // The order of 14, 31, 1 and 2.
+    Ordered,
     // A rank of 4,097 lines, from one of its trials onwards: boot, its last line, line numbers beyond, patrols with the least and the
     // largest budget.
     Large(u64),
@@ -55,10 +59,15 @@ enum Trial {
     // Reads that repair: beside a collision, and three chips at once.
     MovedRepaired,
     ThreeRepaired,
-    // The repair total, and patrols over damaged lines: with one that is refused, and with two, one for each reason.
+    // A repair total, and patrols over damaged lines: with one that is refused, and with two, one for each reason.
     Repairs,
     PatrolDamaged,
     PatrolRefused,
+    // Tasks: numbers that are none, the eight, whose total moves, and totals beside one at its most.
+    TaskRefused,
+    TaskAccepted,
+    CountedAlone,
+    Stopped,
 }
 
 fn main() {
@@ -69,6 +78,7 @@ fn main() {
     report_calls();
     report_records();
     report_repairs();
+    report_tasks();
 }
 
 fn report_code() {
@@ -122,14 +132,14 @@ fn report_refusals() {
         1799,
     );
     report(
-        b"reads refused 12, 13, 14, 1 or 2",
+        b"reads refused 12, 13, 14, 31, 1 or 2",
         Trial::Refused(Call::Read),
-        1799,
+        8999,
     );
     report(
-        b"patrols refused 12, 13, 14 or 1, and one accepted with budget 0",
+        b"patrols refused 12, 13, 14, 31 or 1, and one accepted with budget 0",
         Trial::Refused(Call::Patrol),
-        1199,
+        5999,
     );
     report(
         b"renews refused 12, 14 or 3",
@@ -140,6 +150,11 @@ fn report_refusals() {
         b"faults refused 12, 13, 14, 1, 3 or 4",
         Trial::Refused(Call::Fault),
         8999,
+    );
+    report(
+        b"reads and patrols refused 14, 31, 1 and 2, in this order",
+        Trial::Ordered,
+        4,
     );
 }
 
@@ -200,7 +215,7 @@ fn report_repairs() {
         Trial::ThreeRepaired,
         648,
     );
-    report(b"repair totals", Trial::Repairs, 4);
+    report(b"repair totals of each task", Trial::Repairs, 32);
     report(
         b"patrols over damaged lines, one beyond repair",
         Trial::PatrolDamaged,
@@ -210,6 +225,29 @@ fn report_repairs() {
         b"patrols over lines refused 20 and 21",
         Trial::PatrolRefused,
         9,
+    );
+}
+
+fn report_tasks() {
+    report(
+        b"tasks not below 8, refused 31 by read and patrol",
+        Trial::TaskRefused,
+        9,
+    );
+    report(
+        b"tasks 0 to 7, accepted by read and patrol",
+        Trial::TaskAccepted,
+        8,
+    );
+    report(
+        b"repairs by a read and a patrol, counted for the named task alone",
+        Trial::CountedAlone,
+        8,
+    );
+    report(
+        b"totals at 4,294,967,295 and one below, beside six that still count",
+        Trial::Stopped,
+        64,
     );
 }
 
@@ -249,6 +287,7 @@ fn succeeds(trial: Trial, i: u64) -> bool {
         Trial::Collision => visits::collides(i),
         Trial::AllCollide => visits::all_collide(i),
         Trial::Refused(call) => refusals::succeeds(call, i),
+        Trial::Ordered => refusals::in_order(i),
         Trial::Large(first) => large::succeeds(first % 17 + i % 17),
         Trial::Written => calls::writes(i),
         Trial::FaultRead => calls::reads_damaged(i),
@@ -261,9 +300,13 @@ fn succeeds(trial: Trial, i: u64) -> bool {
         Trial::Renewed => calls::renews(i),
         Trial::MovedRepaired => calls::moves_and_repairs(i),
         Trial::ThreeRepaired => calls::repairs_three(i),
-        Trial::Repairs => calls::counts_repairs(i),
+        Trial::Repairs => tasks::counts_repairs(i),
         Trial::PatrolDamaged => calls::patrols(i),
         Trial::PatrolRefused => calls::patrols_refused(i),
+        Trial::TaskRefused => tasks::refuses(i),
+        Trial::TaskAccepted => tasks::accepts(i),
+        Trial::CountedAlone => tasks::counts_alone(i),
+        Trial::Stopped => tasks::stops(i),
     }
 }
 

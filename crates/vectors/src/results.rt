@@ -1,11 +1,31 @@
-// What the calls return, compared field by field, and the record as boot should make it.
+// What the calls return, compared field by field, and the records that they are given and should return.
 use rank::Called;
 use rank::PatrolResult;
 use rank::Rank;
 use rank::ReadResult;
 
+// The repair totals of the tasks that a trial does not name: distinct, so that one that moves or changes its place is seen.
+const OTHERS: [u32; 8] = [100, 200, 300, 400, 500, 600, 700, 800];
+
+// The task that trial i names, where every task serves.
+pub fn task_of(i: u64) -> u32 {
+    (i % 8) as u32
+}
+
+// Eight totals, of which one task's is given.
+pub fn totals(task: u64, total: u32) -> [u32; 8] {
+    with_total(OTHERS, task, total)
+}
+
+// Totals with one task's replaced.
+pub fn with_total(totals: [u32; 8], task: u64, total: u32) -> [u32; 8] {
+    let mut out = totals;
+    out[(task % 8) as usize] = total;
+    out
+}
+
 // Enable set and the catch-words in both copies.
-pub fn record(lines: u32, catch_words: [u64; 9], repairs: u32) -> Rank {
+pub fn record(lines: u32, catch_words: [u64; 9], repairs: [u32; 8]) -> Rank {
     Rank {
         lines,
         enable: true,
@@ -22,7 +42,7 @@ pub fn zero_record() -> Rank {
         enable: false,
         catch_words: [0u64; 9],
         registers: [0u64; 9],
-        repairs: 0,
+        repairs: [0u32; 8],
     }
 }
 
@@ -63,9 +83,24 @@ pub fn same_numbers(a: [u32; 4], b: [u32; 4]) -> bool {
 fn same(a: Rank, b: Rank) -> bool {
     a.lines == b.lines
         && a.enable == b.enable
-        && a.repairs == b.repairs
+        && same_repairs(a, b)
         && same_catch_words(a, b)
         && same_registers(a, b)
+}
+
+fn same_repairs(a: Rank, b: Rank) -> bool {
+    let of_a = a.repairs;
+    let of_b = b.repairs;
+    same_totals(of_a, of_b)
+}
+
+fn same_totals(a: [u32; 8], b: [u32; 8]) -> bool {
+    for k in 0..8 {
+        if a[k] != b[k] {
+            return false;
+        }
+    }
+    true
 }
 
 fn same_catch_words(a: Rank, b: Rank) -> bool {

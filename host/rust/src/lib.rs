@@ -3,14 +3,18 @@
 //! ```
 //! use lemtskavo::{Rank, LINE_BYTES};
 //!
+//! /// The firmware's number for the task that the lines are read for, 0 to 7.
+//! const MAP_TASK: u32 = 3;
+//!
 //! let mut memory = vec![0; LINE_BYTES * 4];
 //! let mut rank = Rank::boot(&mut memory, &[0x1111_1111_1111_1111; 9]).unwrap();
 //! rank.write(&mut memory, 2, &[0xab; 64]).unwrap();
 //! rank.fault(&mut memory, 2, 5, &[0xff; 9]).unwrap();
 //! let mut line = [0; 64];
-//! let visit = rank.read(&mut memory, 2, &mut line).unwrap();
+//! let visit = rank.read(&mut memory, MAP_TASK, 2, &mut line).unwrap();
 //! assert_eq!(line, [0xab; 64]);
 //! assert_eq!(visit.flagged, 1 << 5);
+//! assert_eq!(rank.repairs, [0, 0, 0, 1, 0, 0, 0, 0]);
 //! ```
 
 pub mod ffi;
@@ -31,7 +35,10 @@ pub const CHIPS: usize = 9;
 /// The most lines that a rank can have.
 pub const LINE_LIMIT: u32 = 65_536;
 
-/// Why a call was refused, by document 01's numbers.
+/// The tasks that repairs are counted for, numbered from 0.
+pub const TASKS: usize = 8;
+
+/// Why a call was refused, by the numbers of documents 01 and 02.
 #[derive(Clone, Copy, Debug, PartialEq, Eq)]
 #[repr(u32)]
 pub enum Refusal {
@@ -57,10 +64,12 @@ pub enum Refusal {
     Parity = 20,
     /// Two or more chips are flagged and the mended words don't xor to zero.
     Mended = 21,
+    /// Read and patrol: the task is not below 8.
+    Task = 31,
 }
 
 impl Refusal {
-    const ALL: [Refusal; 11] = [
+    const ALL: [Refusal; 12] = [
         Refusal::Line,
         Refusal::Buffer,
         Refusal::Chip,
@@ -72,9 +81,10 @@ impl Refusal {
         Refusal::Registers,
         Refusal::Parity,
         Refusal::Mended,
+        Refusal::Task,
     ];
 
-    /// Its number in document 01.
+    /// Its number in document 01 or 02.
     pub fn number(self) -> u32 {
         self as u32
     }
@@ -85,7 +95,7 @@ impl Refusal {
             return None;
         }
         let found = Refusal::ALL.into_iter().find(|refusal| refusal.number() == number);
-        Some(found.expect("the calls refuse by document 01's numbers alone"))
+        Some(found.expect("the calls refuse by the documents' numbers alone"))
     }
 }
 
@@ -103,6 +113,7 @@ impl fmt::Display for Refusal {
             Refusal::Registers => "a register differs from its catch-word",
             Refusal::Parity => "no chip is flagged and the words don't xor to zero",
             Refusal::Mended => "two or more chips are flagged and the mended words don't xor to zero",
+            Refusal::Task => "the task is not below 8",
         };
         write!(f, "{}: {words}", self.number())
     }
@@ -164,10 +175,11 @@ impl Rank {
         refused(called.refusal)
     }
 
-    /// Visits a line, repairs it and puts its 64 bytes in the buffer. Refused with 12, 13, 14, 1, 2, 20 or 21.
-    pub fn read(&mut self, memory: &mut [u8], line: u32, buffer: &mut [u8]) -> Result<Visit, RefusedRead> {
+    /// Visits a line, repairs it and puts its 64 bytes in the buffer. The task, 0 to 7, is the firmware's number for who asks, and the
+    /// words repaired are added to its total alone; any other number is refused with 31. Refused with 12, 13, 14, 31, 1, 2, 20 or 21.
+    pub fn read(&mut self, memory: &mut [u8], task: u32, line: u32, buffer: &mut [u8]) -> Result<Visit, RefusedRead> {
         // SAFETY: as in `boot`.
-        let read = unsafe { ffi::rank_read(*self, memory.as_mut_ptr(), memory.len(), line, buffer.as_mut_ptr(), buffer.len()) };
+        let read = unsafe { ffi::rank_read(*self, memory.as_mut_ptr(), memory.len(), task, line, buffer.as_mut_ptr(), buffer.len()) };
         *self = read.rank;
         let visit = Visit { passes: read.passes, flagged: read.flagged, collisions: read.collisions };
         match Refusal::of(read.refusal) {
@@ -176,10 +188,12 @@ impl Rank {
         }
     }
 
-    /// Visits `budget` lines from `first` on, or as many as there are. A refused line doesn't stop it. Refused with 12, 13, 14 or 1.
-    pub fn patrol(&mut self, memory: &mut [u8], first: u32, budget: u32) -> Result<Patrol, Refusal> {
+    /// Visits `budget` lines from `first` on, or as many as there are. A refused line doesn't stop it. The task, 0 to 7, is the firmware's
+    /// number for who asks, and the words repaired are added to its total alone; any other number is refused with 31. Refused with 12, 13,
+    /// 14, 31 or 1.
+    pub fn patrol(&mut self, memory: &mut [u8], task: u32, first: u32, budget: u32) -> Result<Patrol, Refusal> {
         // SAFETY: as in `boot`.
-        let done = unsafe { ffi::rank_patrol(*self, memory.as_mut_ptr(), memory.len(), first, budget) };
+        let done = unsafe { ffi::rank_patrol(*self, memory.as_mut_ptr(), memory.len(), task, first, budget) };
         *self = done.rank;
         refused(done.refusal)?;
         Ok(Patrol { visited: done.visited, refused: done.refused, rewritten: done.rewritten })

@@ -8,7 +8,7 @@ mod support;
 use lemtskavo::ffi::Rank;
 use model::code::{self, Cell};
 use model::plain::{weight, Line, Plain};
-use support::{lend, Call, Outcome, Random, Tally, Trace};
+use support::{lend, Call, Outcome, Random, Tally, Trace, FAR_TASKS};
 
 /// The step by which a colliding catch-word grows; used only to choose catch-words that meet data after moves.
 const STEP: u64 = 0x9E37_79B9_7F4A_7C15;
@@ -26,8 +26,10 @@ enum Answer {
 fn on_plain(call: &Call, plain: &mut Plain) -> Answer {
     let answer = match call {
         Call::Write { line, data } => plain.write(*line, data).map(|()| Answer::Accepted),
-        Call::Read { line, buffer } => plain.read(*line, buffer.len()).map(Answer::Bytes),
-        Call::Patrol { first, budget } => plain.patrol(*first, *budget).map(|(visited, refused)| Answer::Counts(visited, refused)),
+        Call::Read { task, line, buffer } => plain.read(*task, *line, buffer.len()).map(Answer::Bytes),
+        Call::Patrol { task, first, budget } => {
+            plain.patrol(*task, *first, *budget).map(|(visited, refused)| Answer::Counts(visited, refused))
+        }
         Call::Renew { chip, .. } => plain.renew(*chip).map(|()| Answer::Accepted),
         Call::Fault { line, chip, pattern } => plain.fault(*line, *chip, pattern).map(|()| Answer::Accepted),
     };
@@ -47,8 +49,8 @@ fn compared(call: &Call, outcome: &Outcome) -> Answer {
 /// The lines that a call would visit. A visit changes only its own line, so all can be tested before the call.
 fn visited(call: &Call, plain: &Plain) -> Vec<usize> {
     match call {
-        Call::Read { line, buffer } if (*line as usize) < plain.lines.len() && buffer.len() == 64 => vec![*line as usize],
-        Call::Patrol { first, budget } => plain.patrolled(*first, *budget).map_or(Vec::new(), Iterator::collect),
+        Call::Read { task: 0..8, line, buffer } if (*line as usize) < plain.lines.len() && buffer.len() == 64 => vec![*line as usize],
+        Call::Patrol { task, first, budget } => plain.patrolled(*task, *first, *budget).map_or(Vec::new(), Iterator::collect),
         _ => Vec::new(),
     }
 }
@@ -87,6 +89,15 @@ impl Maker {
             0..=93 => self.random.below(lines) as u32,
             94..=95 => lines as u32,
             96..=97 => self.random.pick(&[65_536, 65_537, 4_096 * 65_536, 0x8000_0000, u32::MAX]),
+            _ => self.random.word() as u32,
+        }
+    }
+
+    /// Free at each call; not below 8 at times.
+    fn task(&mut self) -> u32 {
+        match self.random.below(100) {
+            0..=94 => self.random.below(8) as u32,
+            95..=98 => self.random.pick(&FAR_TASKS),
             _ => self.random.word() as u32,
         }
     }
@@ -169,14 +180,14 @@ impl Maker {
     fn any(&mut self) -> Call {
         match self.random.below(100) {
             0..=39 => self.fault(),
-            40..=46 => self.way_back().unwrap_or(Call::Patrol { first: 0, budget: 0 }),
+            40..=46 => self.way_back().unwrap_or(Call::Patrol { task: 0, first: 0, budget: 0 }),
             47..=72 => {
                 let length = self.length(64);
-                Call::Read { line: self.line(), buffer: self.random.bytes(length) }
+                Call::Read { task: self.task(), line: self.line(), buffer: self.random.bytes(length) }
             }
             73..=80 => {
                 let budget = self.random.pick(&[0, 1, 2, 3, 5, u32::MAX]);
-                Call::Patrol { first: self.line(), budget }
+                Call::Patrol { task: self.task(), first: self.line(), budget }
             }
             81..=90 => Call::Write { line: self.line(), data: self.data() },
             _ => {
@@ -198,8 +209,13 @@ impl Maker {
             self.note(line, tally);
         }
         let answer = on_plain(&call, &mut self.plain);
+        let outside = |line: u32| self.plain.lines.get(line as usize).is_some_and(|line| !line.premise());
         match &call {
-            Call::Fault { line, .. } if answer == Answer::Accepted && !self.plain.lines[*line as usize].premise() => {
+            // It visits no line, so it is under the premise all the same.
+            Call::Read { line, .. } if answer == Answer::Refused(31) && outside(*line) => {
+                tally.case("read refused 31 of a line outside the premise");
+            }
+            Call::Fault { line, .. } if answer == Answer::Accepted && outside(*line) => {
                 self.strayed[*line as usize] = true;
             }
             Call::Write { line, .. } if answer == Answer::Accepted => self.strayed[*line as usize] = false,
@@ -254,6 +270,9 @@ fn count(call: &Call, before: &Rank, outcome: &Outcome, tally: &mut Tally) {
     if visits && before.catch_words != outcome.rank.catch_words {
         tally.case("call that moved a catch-word");
     }
+    if call.task().is_some() && outcome.rank.repairs.iter().filter(|total| **total > 0).count() > 1 {
+        tally.case("visits after repairs for several tasks");
+    }
     if !matches!(call, Call::Read { .. }) || outcome.counts[0] == 0 {
         return;
     }
@@ -302,10 +321,12 @@ fn lists_under_the_premise() {
         "visit with many bits in one chip and one bit in others",
         "visit of a line that was outside the premise in between",
         "call left out, its visit would break the premise",
+        "visits after repairs for several tasks",
     ] {
         tally.demand(case, 200);
     }
-    for (row, refusals) in [(1, vec![1, 2]), (2, vec![1, 2, 21]), (3, vec![1]), (4, vec![3]), (5, vec![1, 3, 4])] {
+    tally.demand("read refused 31 of a line outside the premise", 10);
+    for (row, refusals) in [(1, vec![1, 2]), (2, vec![1, 2, 21, 31]), (3, vec![1, 31]), (4, vec![3]), (5, vec![1, 3, 4])] {
         for refusal in refusals {
             assert!(tally.refused(row, refusal) >= 100);
         }
@@ -337,10 +358,13 @@ fn lists_on_wide_ranks() {
                 for chip in 0..round {
                     calls.push(Call::Fault { line: last, chip, pattern: one_bit(maker.random.below(72)).to_vec() });
                 }
-                calls.push(Call::Read { line: last, buffer: vec![1; 64] });
-                calls.push(Call::Read { line: last + 1, buffer: vec![1; 64] });
+                calls.push(Call::Read { task: round + 8, line: last, buffer: vec![1; 64] });
+                calls.push(Call::Read { task: round, line: last, buffer: vec![1; 64] });
+                calls.push(Call::Read { task: round, line: last + 1, buffer: vec![1; 64] });
+                calls.push(Call::Read { task: u32::MAX - round, line: last + 1, buffer: vec![1; 63] });
                 calls.push(Call::Fault { line: last, chip: 3, pattern: vec![0xFF; 9] });
-                calls.push(Call::Patrol { first: last, budget: u32::MAX });
+                calls.push(Call::Patrol { task: round + 256, first: last, budget: u32::MAX });
+                calls.push(Call::Patrol { task: 7 - round, first: last, budget: u32::MAX });
                 for call in calls {
                     list.push(under_premise(call, &mut maker.plain));
                 }
@@ -355,7 +379,7 @@ fn lists_on_wide_ranks() {
     tally.print("lists on wide ranks");
     assert!(tally.calls() >= 5_000);
     tally.demand("answered read, two or more flagged", 100);
-    tally.demand("read refused 21", 100);
+    tally.demand("read refused 21", 50);
     tally.demand("call that moved a catch-word", 100);
 }
 
@@ -376,7 +400,7 @@ fn every_position_at_the_edge_of_the_premise() {
                 }
             };
             let one = |chip, pattern: Cell| Call::Fault { line: 0, chip, pattern: pattern.to_vec() };
-            let read = Call::Read { line: 0, buffer: vec![0; 64] };
+            let read = Call::Read { task: position as u32 % 8, line: 0, buffer: vec![0; 64] };
             let calls = [
                 Call::Write { line: 0, data: random.bytes(64) },
                 one(chip, one_bit(position)),
@@ -420,7 +444,7 @@ fn every_set_of_damaged_chips() {
                 let pattern = xor(plain.lines[0].patterns[chip], wide).to_vec();
                 list.push(under_premise(Call::Fault { line: 0, chip: chip as u32, pattern }, &mut plain));
             }
-            list.push(under_premise(Call::Read { line: 0, buffer: vec![0; 64] }, &mut plain));
+            list.push(under_premise(Call::Read { task: set % 8, line: 0, buffer: vec![0; 64] }, &mut plain));
         }
     }
     let end = plain.memory();

@@ -5,9 +5,12 @@ mod support;
 use lemtskavo::ffi::Rank;
 use model::code;
 use model::device::{self, Record};
-use support::{lend, Call, Guarded, Outcome, Random, Tally, Trace, CALLS, POSSIBLE};
+use support::{lend, Call, Guarded, Outcome, Random, Tally, Trace, CALLS, FAR_TASKS, POSSIBLE};
 
 const STEP: u64 = Record::STEP;
+
+/// The task that a call names where it is no matter which.
+const TASK: u32 = 5;
 
 /// Line numbers at which a narrow or wrapped number would go wrong. Some equal a small line modulo 4,096 or 65,536.
 const FAR_LINES: [u32; 18] = [
@@ -38,11 +41,17 @@ const FAR_CHIPS: [u32; 14] = [9, 10, 15, 16, 17, 31, 32, 255, 256, 264, 4_096, 6
 const LARGE_LENGTHS: [usize; 9] = [255, 256, 265, 320, 4_105, 4_160, 65_536, 65_545, 65_600];
 
 fn record_of(rank: Rank) -> Record {
-    Record { lines: rank.lines, enable: rank.enable, catch_words: rank.catch_words, registers: rank.registers, total: rank.repairs }
+    Record { lines: rank.lines, enable: rank.enable, catch_words: rank.catch_words, registers: rank.registers, totals: rank.repairs }
 }
 
 fn rank_of(record: Record) -> Rank {
-    Rank { lines: record.lines, enable: record.enable, catch_words: record.catch_words, registers: record.registers, repairs: record.total }
+    Rank {
+        lines: record.lines,
+        enable: record.enable,
+        catch_words: record.catch_words,
+        registers: record.registers,
+        repairs: record.totals,
+    }
 }
 
 /// Makes a call on the model.
@@ -52,14 +61,14 @@ fn on_model(call: &Call, rank: Rank, memory: &mut [u8]) -> Outcome {
         |called: device::Called| Outcome { refusal: called.refusal, counts: [0; 3], rank: rank_of(called.record), buffer: Vec::new() };
     match call {
         Call::Write { line, data } => plain(device::write(record, memory, *line, data)),
-        Call::Read { line, buffer } => {
+        Call::Read { task, line, buffer } => {
             let mut buffer = buffer.clone();
-            let read = device::read(record, memory, *line, &mut buffer);
+            let read = device::read(record, memory, *task, *line, &mut buffer);
             let counts = [read.passes, read.flagged, read.collisions];
             Outcome { refusal: read.refusal, counts, rank: rank_of(read.record), buffer }
         }
-        Call::Patrol { first, budget } => {
-            let patrol = device::patrol(record, memory, *first, *budget);
+        Call::Patrol { task, first, budget } => {
+            let patrol = device::patrol(record, memory, *task, *first, *budget);
             let counts = [patrol.visited, patrol.refused, patrol.rewritten];
             Outcome { refusal: patrol.refusal, counts, rank: rank_of(patrol.record), buffer: Vec::new() }
         }
@@ -114,11 +123,19 @@ impl Twin {
     }
 
     fn read(&mut self, line: u32, tally: &mut Tally) -> Outcome {
-        self.call(&Call::Read { line, buffer: vec![0x5A; 64] }, tally)
+        self.read_for(TASK, line, tally)
+    }
+
+    fn read_for(&mut self, task: u32, line: u32, tally: &mut Tally) -> Outcome {
+        self.call(&Call::Read { task, line, buffer: vec![0x5A; 64] }, tally)
     }
 
     fn patrol(&mut self, first: u32, budget: u32, tally: &mut Tally) -> Outcome {
-        self.call(&Call::Patrol { first, budget }, tally)
+        self.patrol_for(TASK, first, budget, tally)
+    }
+
+    fn patrol_for(&mut self, task: u32, first: u32, budget: u32, tally: &mut Tally) -> Outcome {
+        self.call(&Call::Patrol { task, first, budget }, tally)
     }
 
     fn fault(&mut self, line: u32, chip: u32, pattern: &[u8], tally: &mut Tally) -> u32 {
@@ -159,6 +176,8 @@ struct List {
     twin: Twin,
     /// Words that data and catch-words are both taken from, so that they often meet.
     palette: Vec<u64>,
+    /// The tasks that most calls name.
+    tasks: Vec<u32>,
     written: Vec<Vec<u8>>,
     repaired: Vec<bool>,
     /// Chips whose catch-word has grown by the step and has not been renewed since.
@@ -176,9 +195,19 @@ impl List {
             _ => std::array::from_fn(|_| random.pick(&palette)),
         };
         let mut twin = Twin::lines(lines, catch_words, tally);
-        if random.chance(15) {
-            twin.rank.repairs = u32::MAX - random.below(12) as u32;
+        if random.chance(25) {
+            // One total or several near the end.
+            for task in 0..8 {
+                if random.chance(40) {
+                    twin.rank.repairs[task] = u32::MAX - random.below(12) as u32;
+                }
+            }
         }
+        // In some lists few tasks, so that their totals come to the end.
+        let tasks = match random.below(5) {
+            0 | 1 => (0..1 + random.below(3)).map(|_| random.below(8) as u32).collect(),
+            _ => (0..8).collect(),
+        };
         let mut written = vec![vec![0; 64]; lines];
         if lines <= 8 && random.chance(5) {
             // Any memory at all, not only what calls leave.
@@ -186,7 +215,7 @@ impl List {
             twin.set_memory(bytes);
             written.clear();
         }
-        List { random, twin, palette, written, repaired: vec![false; lines], moved: 0 }
+        List { random, twin, palette, tasks, written, repaired: vec![false; lines], moved: 0 }
     }
 
     /// Mostly a line of the rank.
@@ -200,6 +229,14 @@ impl List {
             87..=89 => lines,
             90..=91 => lines + 1,
             92..=97 => self.random.pick(&FAR_LINES),
+            _ => self.random.word() as u32,
+        }
+    }
+
+    fn task(&mut self) -> u32 {
+        match self.random.below(100) {
+            0..=87 => self.random.pick(&self.tasks),
+            88..=98 => self.random.pick(&FAR_TASKS),
             _ => self.random.word() as u32,
         }
     }
@@ -315,9 +352,9 @@ impl List {
             }
             38..=67 => {
                 let length = self.length(64);
-                Call::Read { line: self.line(), buffer: self.random.bytes(length) }
+                Call::Read { task: self.task(), line: self.line(), buffer: self.random.bytes(length) }
             }
-            68..=79 => Call::Patrol { first: self.line(), budget: self.budget() },
+            68..=79 => Call::Patrol { task: self.task(), first: self.line(), budget: self.budget() },
             80..=91 => Call::Write { line: self.line(), data: self.data() },
             _ => {
                 let chip = self.chip();
@@ -350,11 +387,13 @@ impl List {
         if self.random.chance(18) {
             let mut broken = self.twin.clone();
             self.break_state(&mut broken);
-            broken.call(&call, tally);
+            let refusal = broken.call(&call, tally).refusal;
+            note_far_task(&call, self.twin.rank.lines, refusal, tally);
             return;
         }
         let before = self.twin.rank;
         let outcome = self.twin.call(&call, tally);
+        note_far_task(&call, before.lines, outcome.refusal, tally);
         self.note(&call, &before, &outcome, tally);
     }
 
@@ -412,12 +451,40 @@ impl List {
                 self.moved = self.moved & !(1 << chip) | u32::from(moved) << chip;
             }
         }
-        if before.repairs != outcome.rank.repairs && outcome.rank.repairs == u32::MAX {
-            tally.case("repair total reaches 4,294,967,295");
+        if call.rewritten(outcome) > 0 {
+            note_total(call.task().unwrap() as usize, before, &outcome.rank, tally);
         }
-        if before.repairs == u32::MAX && matches!(call, Call::Read { .. }) && outcome.refusal == 0 && flagged != 0 {
-            tally.case("repair at a total of 4,294,967,295");
-        }
+    }
+}
+
+/// Counts what a repair for a task did to its total.
+fn note_total(task: usize, before: &Rank, after: &Rank, tally: &mut Tally) {
+    if before.repairs[task] == u32::MAX {
+        tally.case("repair at a total of 4,294,967,295");
+    } else if after.repairs[task] == u32::MAX {
+        tally.case("repair total reaches 4,294,967,295");
+    } else if before.repairs.contains(&u32::MAX) {
+        tally.case("repair counted beside a total of 4,294,967,295");
+    }
+}
+
+/// Counts calls with a task not below 8 by what else is wrong in them.
+fn note_far_task(call: &Call, lines: u32, refusal: u32, tally: &mut Tally) {
+    let (task, line, length) = match call {
+        Call::Read { task, line, buffer } => (*task, *line, buffer.len()),
+        Call::Patrol { task, first, .. } => (*task, *first, 64),
+        _ => return,
+    };
+    if task < 8 {
+        return;
+    }
+    match (refusal, line >= lines, length != 64) {
+        (12 | 13, _, _) => tally.case("refused 12 or 13 with a task not below 8"),
+        (14, _, _) => tally.case("refused 14 with a task not below 8"),
+        (_, false, false) => tally.case("refused 31 alone"),
+        (_, true, false) => tally.case("refused 31 with a wrong line"),
+        (_, false, true) => tally.case("refused 31 with a wrong buffer"),
+        (_, true, true) => tally.case("refused 31 with a wrong line and a wrong buffer"),
     }
 }
 
@@ -470,6 +537,13 @@ fn random_lists_agree() {
         "patrol with refused lines",
         "repair total reaches 4,294,967,295",
         "repair at a total of 4,294,967,295",
+        "repair counted beside a total of 4,294,967,295",
+        "refused 12 or 13 with a task not below 8",
+        "refused 14 with a task not below 8",
+        "refused 31 alone",
+        "refused 31 with a wrong line",
+        "refused 31 with a wrong buffer",
+        "refused 31 with a wrong line and a wrong buffer",
     ] {
         tally.demand(case, 100);
     }
@@ -557,7 +631,7 @@ fn every_wrong_length() {
         let bytes = random.bytes(length);
         let buffer = if length == 64 { 0 } else { 2 };
         assert_eq!(twin.write(1, &bytes, &mut tally), buffer);
-        assert_eq!(twin.call(&Call::Read { line: 1, buffer: bytes.clone() }, &mut tally).refusal, buffer);
+        assert_eq!(twin.call(&Call::Read { task: TASK, line: 1, buffer: bytes.clone() }, &mut tally).refusal, buffer);
         let pattern = if length == 9 { 0 } else { 4 };
         assert_eq!(twin.fault(1, 4, &bytes, &mut tally), pattern);
     }
@@ -584,7 +658,7 @@ fn boot_takes_1_to_65536_whole_lines() {
         let (refusal, twin) = Twin::boot(length, &[3; 9], &mut tally);
         assert_eq!(refusal, if accepted { 0 } else { 11 });
         if accepted {
-            assert_eq!(twin.rank, rank_of(Record { lines: (length / 81) as u32, enable: true, total: 0, ..filled(3) }));
+            assert_eq!(twin.rank, rank_of(Record { lines: (length / 81) as u32, enable: true, totals: [0; 8], ..filled(3) }));
             assert!(twin.library.inside().iter().all(|byte| *byte == 0));
         } else {
             assert_eq!(twin.rank, rank_of(Record::fresh()));
@@ -603,8 +677,8 @@ fn filled(word: u64) -> Record {
 fn right_calls() -> [Call; 5] {
     [
         Call::Write { line: 3, data: vec![0x77; 64] },
-        Call::Read { line: 3, buffer: vec![0x5A; 64] },
-        Call::Patrol { first: 0, budget: 4 },
+        Call::Read { task: TASK, line: 3, buffer: vec![0x5A; 64] },
+        Call::Patrol { task: TASK, first: 0, budget: 4 },
         Call::Renew { chip: 8, catch_word: 99 },
         Call::Fault { line: 3, chip: 8, pattern: vec![0x11; 9] },
     ]
@@ -671,10 +745,10 @@ fn records_and_memories_that_do_not_fit() {
     tally.print("records and memories");
 }
 
-/// Every set of conditions at once: the first in document 01's order is the refusal.
+/// Every set of conditions at once: the first in the order of documents 01 and 02 is the refusal.
 #[test]
 fn refusals_keep_their_order() {
-    const ORDER: [u32; 7] = [12, 13, 14, 1, 2, 3, 4];
+    const ORDER: [u32; 8] = [12, 13, 14, 31, 1, 2, 3, 4];
     let mut tally = Tally::default();
     let mut twin = Twin::lines(4, [5; 9], &mut tally);
     // Line 1 leads to 20, line 2 to 21.
@@ -699,14 +773,15 @@ fn refusals_keep_their_order() {
             if met(14) {
                 broken.rank.registers[variant % 9] ^= 1 << 63;
             }
+            let task = if met(31) { FAR_TASKS[variant] } else { (variant % 8) as u32 };
             let line = if met(1) { [4, 65_536, u32::MAX][variant % 3] } else { (variant % 3) as u32 };
             let buffer = vec![0x66; if met(2) { [63, 65, 0][variant % 3] } else { 64 }];
             let chip = if met(3) { [9, 256, u32::MAX][variant % 3] } else { 8 };
             let pattern = vec![0x11; if met(4) { [8, 10, 0][variant % 3] } else { 9 }];
             let calls: [(Call, &[u32]); 5] = [
                 (Call::Write { line, data: buffer.clone() }, &[12, 13, 14, 1, 2]),
-                (Call::Read { line, buffer }, &[12, 13, 14, 1, 2]),
-                (Call::Patrol { first: line, budget: 4 }, &[12, 13, 14, 1]),
+                (Call::Read { task, line, buffer }, &[12, 13, 14, 31, 1, 2]),
+                (Call::Patrol { task, first: line, budget: 4 }, &[12, 13, 14, 31, 1]),
                 (Call::Renew { chip, catch_word: 1 }, &[12, 14, 3]),
                 (Call::Fault { line, chip, pattern }, &[12, 13, 14, 1, 3, 4]),
             ];
@@ -717,6 +792,9 @@ fn refusals_keep_their_order() {
                 assert_eq!(outcome.refusal, first.unwrap_or(visit), "{call:?}");
                 if outcome.refusal != 0 {
                     assert_eq!(outcome.rank, broken.rank, "a refusal returns the record given");
+                }
+                if outcome.refusal != 0 && outcome.refusal != visit {
+                    assert_eq!(outcome.counts, [0; 3], "a call refused before its visits counts nothing");
                 }
             }
         }
@@ -772,7 +850,9 @@ fn each_visit_moves(twin: &mut Twin, chip: usize, data: &[Vec<u8>], tally: &mut 
         assert_eq!(read.buffer, data[line]);
         assert_eq!(read.rank.catch_words[chip], before.catch_words[chip].wrapping_add(STEP));
         assert_eq!(read.rank.registers, read.rank.catch_words);
-        assert_eq!(read.rank.repairs, before.repairs + others as u32);
+        let mut repairs = before.repairs;
+        repairs[TASK as usize] += others as u32;
+        assert_eq!(read.rank.repairs, repairs);
     }
 }
 
@@ -805,25 +885,77 @@ fn complements_are_no_candidates(twin: &Twin, chip: usize, held: u64, tally: &mu
     assert_eq!(twin.read(0, tally).counts, [3, 1 << other | 1 << chip, 0]);
 }
 
+/// No number but 0 to 7 is a task, whatever its bits above the third are. The lines are such that a visit would change memory, record and
+/// buffer.
 #[test]
-fn the_repair_total_stays_at_its_end() {
+fn tasks_not_below_8_are_refused() {
+    let mut tally = Tally::default();
+    let mut random = Random::new(support::seed(), 7, 0);
+    // Cleared words meet catch-word 0.
+    let mut twin = Twin::lines(4, [0, 1, 2, 3, 4, 5, 6, 7, 0], &mut tally);
+    twin.rank.repairs = [0, 1, 2, 3, 4, u32::MAX - 1, u32::MAX, 7];
+    twin.fault(1, 3, &[0xFF; 9], &mut tally);
+    twin.fault(2, 7, &one_bit(9), &mut tally);
+    twin.fault(2, 8, &one_bit(60), &mut tally);
+    for task in 0..8 {
+        assert_eq!(twin.clone().read_for(task, 1, &mut tally).refusal, 0);
+        assert_eq!(twin.clone().patrol_for(task, 0, 4, &mut tally).counts, [4, 0, 3]);
+    }
+    let (given, memory) = (twin.rank, twin.library.inside().to_vec());
+    let bits = (3..32).flat_map(|bit| (0..8).map(move |low| 1 << bit | low));
+    for task in (8..300).chain(bits).chain(FAR_TASKS) {
+        for line in [0, 1, 2, 4, u32::MAX] {
+            for length in [64, 63, 0] {
+                let buffer = random.bytes(length);
+                let read = twin.call(&Call::Read { task, line, buffer: buffer.clone() }, &mut tally);
+                assert_eq!(read, Outcome { refusal: 31, counts: [0; 3], rank: given, buffer });
+            }
+            for budget in [0, 1, u32::MAX] {
+                let patrol = twin.patrol_for(task, line, budget, &mut tally);
+                assert_eq!(patrol, Outcome { refusal: 31, counts: [0; 3], rank: given, buffer: Vec::new() });
+            }
+        }
+    }
+    assert!(twin.library.inside() == memory, "a refused call changed the memory");
+    tally.print("tasks");
+}
+
+/// Each task's total grows to 4,294,967,295 and stays there; the seven others stay whatever they are, and count on when they are named.
+#[test]
+fn each_repair_total_stays_at_its_end() {
     let mut tally = Tally::default();
     let mut random = Random::new(support::seed(), 5, 0);
     let data = random.bytes(64);
-    for short in 0..30 {
-        for flagged in 0..=9 {
-            let mut twin = Twin::lines(3, [0xABCD; 9], &mut tally);
-            for line in 0..3 {
-                twin.write(line, &data, &mut tally);
-                for chip in 0..flagged {
-                    twin.fault(line, chip, &one_bit(random.below(72)), &mut tally);
-                }
+    for flagged in 0..=9 {
+        let mut twin = Twin::lines(3, [0xABCD; 9], &mut tally);
+        for line in 0..3 {
+            twin.write(line, &data, &mut tally);
+            for chip in 0..flagged {
+                twin.fault(line, chip, &one_bit(random.below(72)), &mut tally);
             }
-            twin.rank.repairs = u32::MAX - short;
-            let patrol = twin.clone().patrol(0, 3, &mut tally);
-            assert_eq!(patrol.counts, [3, 0, 3 * flagged]);
-            assert_eq!(patrol.rank.repairs, u32::MAX - short.saturating_sub(3 * flagged));
-            assert_eq!(twin.read(1, &mut tally).rank.repairs, u32::MAX - short.saturating_sub(flagged));
+        }
+        for task in 0..8 {
+            for short in 0..30 {
+                let mut repairs: [u32; 8] = std::array::from_fn(|other| 1_000 * other as u32);
+                repairs[(task + 1) % 8] = u32::MAX;
+                repairs[(task + 2) % 8] = u32::MAX - 1;
+                let ends_at = |left: u32| {
+                    let mut repairs = repairs;
+                    repairs[task] = u32::MAX - left;
+                    repairs
+                };
+                let mut twin = twin.clone();
+                twin.rank.repairs = ends_at(short);
+                let patrol = twin.clone().patrol_for(task as u32, 0, 3, &mut tally);
+                assert_eq!(patrol.counts, [3, 0, 3 * flagged]);
+                assert_eq!(patrol.rank.repairs, ends_at(short.saturating_sub(3 * flagged)));
+                let read = twin.read_for(task as u32, 1, &mut tally);
+                let mut expected = ends_at(short.saturating_sub(flagged));
+                assert_eq!(read.rank.repairs, expected);
+                let other = (task + 3) % 8;
+                expected[other] += flagged;
+                assert_eq!(twin.read_for(other as u32, 0, &mut tally).rank.repairs, expected);
+            }
         }
     }
     tally.print("repair totals");

@@ -1,7 +1,9 @@
 //! The safe wrapper: its refusals, what a refused call leaves, and the examples of document 01.
-use lemtskavo::{Patrol, Rank, Refusal, RefusedRead, Visit, LINE_BYTES, LINE_LIMIT};
+use lemtskavo::{Patrol, Rank, Refusal, RefusedRead, Visit, LINE_BYTES, LINE_LIMIT, TASKS};
 
 const CATCH_WORD: u64 = 0x1111_1111_1111_1111;
+/// The task that calls name, as document 01's bench does by document 02's Req 01.
+const TASK: u32 = 0;
 const NO_VISIT: Visit = Visit { passes: 0, flagged: 0, collisions: 0 };
 
 /// A rank of some lines with the catch-words of document 01's bench.
@@ -17,13 +19,13 @@ fn pattern(digits: &str) -> Vec<u8> {
 }
 
 /// Makes each of the five calls on a rank that is to refuse them all, and checks that nothing changes.
-fn all_refuse(rank: Rank, memory: &[u8], refusal: Refusal) {
+fn all_refuse(rank: Rank, memory: &[u8], refusal: Refusal, task: u32) {
     let mut after = rank;
     let mut bytes = memory.to_vec();
     let mut buffer = [0xA5; 64];
     assert_eq!(after.write(&mut bytes, 0, &[0; 64]), Err(refusal));
-    assert_eq!(after.read(&mut bytes, 0, &mut buffer), Err(RefusedRead { refusal, visit: NO_VISIT }));
-    assert_eq!(after.patrol(&mut bytes, 0, 1), Err(refusal));
+    assert_eq!(after.read(&mut bytes, task, 0, &mut buffer), Err(RefusedRead { refusal, visit: NO_VISIT }));
+    assert_eq!(after.patrol(&mut bytes, task, 0, 1), Err(refusal));
     assert_eq!(after.fault(&mut bytes, 0, 0, &[1; 9]), Err(refusal));
     if refusal != Refusal::MemoryLength {
         assert_eq!(after.renew(0, 5), Err(refusal));
@@ -32,7 +34,7 @@ fn all_refuse(rank: Rank, memory: &[u8], refusal: Refusal) {
 }
 
 #[test]
-fn numbers_are_those_of_document_01() {
+fn numbers_are_those_of_the_documents() {
     let numbers = [
         (Refusal::Line, 1),
         (Refusal::Buffer, 2),
@@ -45,6 +47,7 @@ fn numbers_are_those_of_document_01() {
         (Refusal::Registers, 14),
         (Refusal::Parity, 20),
         (Refusal::Mended, 21),
+        (Refusal::Task, 31),
     ];
     for (refusal, number) in numbers {
         assert_eq!(refusal.number(), number);
@@ -71,7 +74,7 @@ fn boot_refuses_11_then_5() {
 #[test]
 fn boot_clears_the_memory_and_sets_the_record() {
     let (rank, memory) = boot(LINE_LIMIT as usize);
-    let expected = Rank { lines: LINE_LIMIT, enable: true, catch_words: [CATCH_WORD; 9], registers: [CATCH_WORD; 9], repairs: 0 };
+    let expected = Rank { lines: LINE_LIMIT, enable: true, catch_words: [CATCH_WORD; 9], registers: [CATCH_WORD; 9], repairs: [0; TASKS] };
     assert_eq!(rank, expected);
     assert!(memory.iter().all(|byte| *byte == 0));
 }
@@ -79,17 +82,17 @@ fn boot_clears_the_memory_and_sets_the_record() {
 #[test]
 fn states_that_refuse_every_call() {
     let (rank, memory) = boot(2);
-    all_refuse(Rank { enable: false, ..rank }, &memory, Refusal::NotReady);
+    all_refuse(Rank { enable: false, ..rank }, &memory, Refusal::NotReady, TASK);
     for lines in [0, LINE_LIMIT + 1, u32::MAX] {
-        all_refuse(Rank { lines, ..rank }, &memory, Refusal::NotReady);
+        all_refuse(Rank { lines, ..rank }, &memory, Refusal::NotReady, TASK);
     }
     for length in [0, 81, 161, 163, 243] {
-        all_refuse(rank, &vec![0; length], Refusal::MemoryLength);
+        all_refuse(rank, &vec![0; length], Refusal::MemoryLength, TASK);
     }
     for chip in 0..9 {
         let mut differs = rank;
         differs.registers[chip] ^= 1;
-        all_refuse(differs, &memory, Refusal::Registers);
+        all_refuse(differs, &memory, Refusal::Registers, TASK);
     }
 }
 
@@ -102,8 +105,8 @@ fn arguments_that_are_refused() {
     let line = RefusedRead { refusal: Refusal::Line, visit: NO_VISIT };
     for number in [4, 5, 4_096, 65_536, 65_537, 1 << 31, u32::MAX] {
         assert_eq!(rank.write(&mut memory, number, &[0; 64]), Err(Refusal::Line));
-        assert_eq!(rank.read(&mut memory, number, &mut buffer), Err(line));
-        assert_eq!(rank.patrol(&mut memory, number, 0), Err(Refusal::Line));
+        assert_eq!(rank.read(&mut memory, TASK, number, &mut buffer), Err(line));
+        assert_eq!(rank.patrol(&mut memory, TASK, number, 0), Err(Refusal::Line));
         assert_eq!(rank.fault(&mut memory, number, 0, &[1; 9]), Err(Refusal::Line));
     }
     for number in [9, 10, 256, 65_536, u32::MAX] {
@@ -117,13 +120,66 @@ fn arguments_that_are_refused() {
 }
 
 #[test]
+fn tasks_not_below_8_are_refused_before_the_line_and_the_buffer() {
+    let (mut rank, mut memory) = boot(2);
+    rank.fault(&mut memory, 0, 1, &[0xFF; 9]).unwrap();
+    let (given, before) = (rank, memory.clone());
+    let refused = RefusedRead { refusal: Refusal::Task, visit: NO_VISIT };
+    for task in [8, 9, 15, 16, 255, 256 + 3, 65_536, 1 << 31, u32::MAX] {
+        for (line, length) in [(0, 64), (2, 64), (0, 63), (2, 63), (u32::MAX, 0)] {
+            let mut buffer = vec![0xA5; length];
+            assert_eq!(rank.read(&mut memory, task, line, &mut buffer), Err(refused));
+            assert_eq!(buffer, vec![0xA5; length]);
+            for budget in [0, 1, u32::MAX] {
+                assert_eq!(rank.patrol(&mut memory, task, line, budget), Err(Refusal::Task));
+            }
+        }
+        all_refuse(Rank { enable: false, ..rank }, &memory, Refusal::NotReady, task);
+        all_refuse(rank, &memory[1..], Refusal::MemoryLength, task);
+        all_refuse(Rank { catch_words: [5; 9], ..rank }, &memory, Refusal::Registers, task);
+    }
+    assert_eq!((rank, memory), (given, before));
+}
+
+#[test]
+fn only_the_task_that_is_named_counts() {
+    let (mut rank, mut memory) = boot(3);
+    let mut expected = [0; TASKS];
+    for task in 0..TASKS {
+        for line in 0..3 {
+            rank.fault(&mut memory, line, task as u32, &[0xFF; 9]).unwrap();
+        }
+        rank.read(&mut memory, task as u32, 2, &mut [0; 64]).unwrap();
+        expected[task] += 1;
+        assert_eq!(rank.repairs, expected);
+        let other = (task + 3) % TASKS;
+        assert_eq!(rank.patrol(&mut memory, other as u32, 0, 3), Ok(Patrol { visited: 3, refused: 0, rewritten: 2 }));
+        expected[other] += 2;
+        assert_eq!(rank.repairs, expected);
+    }
+}
+
+#[test]
+fn a_total_that_has_stopped_stays() {
+    let (mut rank, mut memory) = boot(1);
+    rank.repairs = [u32::MAX - 1; TASKS];
+    let mut expected = rank.repairs;
+    for task in [4, 4, 6] {
+        rank.fault(&mut memory, 0, 2, &[0xFF; 9]).unwrap();
+        rank.read(&mut memory, task, 0, &mut [0; 64]).unwrap();
+        expected[task as usize] = u32::MAX;
+        assert_eq!(rank.repairs, expected);
+    }
+}
+
+#[test]
 fn buffers_of_63_and_65_are_refused() {
     let (mut rank, mut memory) = boot(1);
     let (given, before) = (rank, memory.clone());
     for length in [63, 65] {
         let mut buffer = vec![0xA5; length];
         let refused = RefusedRead { refusal: Refusal::Buffer, visit: NO_VISIT };
-        assert_eq!(rank.read(&mut memory, 0, &mut buffer), Err(refused));
+        assert_eq!(rank.read(&mut memory, TASK, 0, &mut buffer), Err(refused));
         assert_eq!(buffer, vec![0xA5; length]);
         assert_eq!(rank.write(&mut memory, 0, &vec![1; length]), Err(Refusal::Buffer));
     }
@@ -139,12 +195,12 @@ fn a_refused_read_carries_its_visit() {
     let given = rank;
     let mut buffer = [0xA5; 64];
     let visit = Visit { passes: 1, flagged: 0, collisions: 0 };
-    assert_eq!(rank.read(&mut memory, 0, &mut buffer), Err(RefusedRead { refusal: Refusal::Parity, visit }));
+    assert_eq!(rank.read(&mut memory, TASK, 0, &mut buffer), Err(RefusedRead { refusal: Refusal::Parity, visit }));
     // The same with a catch-word that chip 4 holds: a collision is reported, and the catch-word stays.
     rank.renew(4, 0x2222_2222_2222_2222).unwrap();
     let renewed = rank;
     let visit = Visit { passes: 2, flagged: 0, collisions: 1 << 4 };
-    assert_eq!(rank.read(&mut memory, 0, &mut buffer), Err(RefusedRead { refusal: Refusal::Parity, visit }));
+    assert_eq!(rank.read(&mut memory, TASK, 0, &mut buffer), Err(RefusedRead { refusal: Refusal::Parity, visit }));
     assert_eq!(rank, renewed);
     rank.renew(4, CATCH_WORD).unwrap();
     assert_eq!(rank, given);
@@ -153,7 +209,7 @@ fn a_refused_read_carries_its_visit() {
     rank.fault(&mut memory, 1, 0, &[0xFF; 9]).unwrap();
     rank.fault(&mut memory, 1, 8, &pattern("000000000000000001")).unwrap();
     let visit = Visit { passes: 3, flagged: 0x101, collisions: 0 };
-    let refused = rank.read(&mut memory, 1, &mut buffer).unwrap_err();
+    let refused = rank.read(&mut memory, TASK, 1, &mut buffer).unwrap_err();
     assert_eq!(refused, RefusedRead { refusal: Refusal::Mended, visit });
     assert_eq!(refused.to_string(), Refusal::Mended.to_string());
     assert_eq!((rank, buffer), (given, [0xA5; 64]));
@@ -166,9 +222,9 @@ fn a_patrol_goes_on_after_a_refused_line() {
     rank.fault(&mut memory, 2, 7, &[0xFF; 9]).unwrap();
     rank.fault(&mut memory, 3, 0, &pattern("000000000000000001")).unwrap();
     rank.fault(&mut memory, 3, 8, &pattern("800000000000000000")).unwrap();
-    assert_eq!(rank.patrol(&mut memory, 0, u32::MAX), Ok(Patrol { visited: 4, refused: 1, rewritten: 3 }));
-    assert_eq!(rank.repairs, 3);
-    assert_eq!(rank.patrol(&mut memory, 2, 9), Ok(Patrol { visited: 2, refused: 0, rewritten: 0 }));
+    assert_eq!(rank.patrol(&mut memory, TASK, 0, u32::MAX), Ok(Patrol { visited: 4, refused: 1, rewritten: 3 }));
+    assert_eq!(rank.repairs, [3, 0, 0, 0, 0, 0, 0, 0]);
+    assert_eq!(rank.patrol(&mut memory, TASK, 2, 9), Ok(Patrol { visited: 2, refused: 0, rewritten: 0 }));
 }
 
 #[test]
@@ -177,7 +233,7 @@ fn budget_0_visits_none() {
     rank.fault(&mut memory, 0, 1, &[0xFF; 9]).unwrap();
     let (given, before) = (rank, memory.clone());
     for first in 0..2 {
-        assert_eq!(rank.patrol(&mut memory, first, 0), Ok(Patrol { visited: 0, refused: 0, rewritten: 0 }));
+        assert_eq!(rank.patrol(&mut memory, TASK, first, 0), Ok(Patrol { visited: 0, refused: 0, rewritten: 0 }));
     }
     assert_eq!((rank, memory), (given, before));
 }
@@ -189,11 +245,11 @@ fn a_rank_of_4097_lines() {
     rank.write(&mut memory, 4_096, &[0x42; 64]).unwrap();
     assert_eq!(rank.write(&mut memory, 4_097, &[0x43; 64]), Err(Refusal::Line));
     let mut buffer = [0; 64];
-    rank.read(&mut memory, 4_096, &mut buffer).unwrap();
+    rank.read(&mut memory, TASK, 4_096, &mut buffer).unwrap();
     assert_eq!(buffer, [0x42; 64]);
     let refused = RefusedRead { refusal: Refusal::Line, visit: NO_VISIT };
-    assert_eq!(rank.read(&mut memory, 4_097, &mut buffer), Err(refused));
-    rank.read(&mut memory, 0, &mut buffer).unwrap();
+    assert_eq!(rank.read(&mut memory, TASK, 4_097, &mut buffer), Err(refused));
+    rank.read(&mut memory, TASK, 0, &mut buffer).unwrap();
     assert_eq!(buffer, [0; 64]);
 }
 
@@ -207,7 +263,7 @@ fn event(rank: &mut Rank, memory: &mut [u8], line: &str) -> String {
         "f" => format!("f {}", number(rank.fault(memory, at, fields[2].parse().unwrap(), &pattern(fields[3])))),
         _ => {
             let mut buffer = [0; 64];
-            match rank.read(memory, at, &mut buffer) {
+            match rank.read(memory, TASK, at, &mut buffer) {
                 Err(refused) => format!("r {}", refused.refusal.number()),
                 Ok(visit) => {
                     let word = u64::from_be_bytes(buffer[..8].try_into().unwrap());

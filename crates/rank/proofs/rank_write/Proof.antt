@@ -3,7 +3,7 @@ use mathlib.Core.Path.{sym, ap, _∙_}
 use native.Mathlib.Omega.{arith}
 use Rattle.rank.specs.declared.Called.{Called}
 use Rattle.rank.specs.Calls.{Leaves, writeBy}
-use Rattle.rank.specs.RefusalLaws.{buffer-passed}
+use Rattle.rank.specs.RefusalLaws.{write-passed}
 use Rattle.rank.specs.CallLaws.{write-refused, write-accepted}
 use borrow.Author.Needs.{needs}
 use Rattle.rank.proofs.rank_write.Statement.{statement}
@@ -12,23 +12,23 @@ use Rattle.rank.proofs.rank_write.Tie as tie
 returns : tie.Need-returns
 returns c =
     let a = c .before .before .before .before .before .args in
-    let e = write-refused (a .rank) (a .memory .now) (a .line) (a .bytes .now) _ (c .before .of-buffer .ensures) (c .if1 .taken) in
+    let e = write-refused (a .rank) (a .memory .now) (a .line) (a .bytes .now) _ (c .before .of-write .ensures) (c .if1 .taken) in
     (sym (ap (λ (x : Leaves Called). x .result) e), sym (ap (λ (x : Leaves Called). x .memory) e))
 
 lay-requires : tie.Need-lay-requires
 lay-requires c κs =
     let a = c .before .before .before .before .before .before .args in
-    let p = buffer-passed (a .rank) (a .memory .now) (a .line) (a .bytes .now)
-    (sym (c .before .before .of-buffer .ensures) ∙ c .before .if1 .left) in
+    let p = write-passed (a .rank) (a .memory .now) (a .line) (a .bytes .now)
+    (sym (c .before .before .of-write .ensures) ∙ c .before .if1 .left) in
     (omega (arith, p .0 .size, p .1), p .2)
 
 returns-2 : tie.Need-returns-2
 unfolding writeBy
 returns-2 c =
     let a = c .before .before .before .before .before .before .before .before .before .args in
-    let of-buffer = c .before .before .before .before .before .of-buffer in
+    let of-write = c .before .before .before .before .before .of-write in
     let if1 = c .before .before .before .before .if1 in
-    let e = write-accepted (a .rank) (a .memory .now) (a .line) (a .bytes .now) _ (of-buffer .ensures) (if1 .left) in
+    let e = write-accepted (a .rank) (a .memory .now) (a .line) (a .bytes .now) _ (of-write .ensures) (if1 .left) in
     (sym (ap (λ (x : Leaves Called). x .result) e), (c .before .before .lay .ensures) ∙ sym (ap (λ (x : Leaves Called). x .memory) e))
 
 pub rank-write-spec : {M : Type 1} → statement M

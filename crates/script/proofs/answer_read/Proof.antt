@@ -13,7 +13,7 @@ returns c =
     let at-if1 = c .before .before .before .before .if1 in
     let at-rank-read = c .before .before .before .before .before .before .before .before .before .rank-read in
     let x = back .before .before .args in (
-      refused-replies (readOf (x .rank) (x .memory .now) (x .line) (replicate 64 0)) (at-rank-read .ensures .0)
+      refused-replies (readOf (x .rank) (x .memory .now) 0 (x .line) (replicate 64 0)) (at-rank-read .ensures .0)
           (at-rank-read .ensures .1 .0) (at-if1 .taken) (at-spell-call .ensures .0),
       at-spell-call .ensures .1,
     )
@@ -26,7 +26,7 @@ returns-2 c =
     let at-if1 = c .before .before .before .before .before .before .if1 in
     let at-rank-read = c .before .before .before .before .before .before .before .before .before .before .before .rank-read in
     let x = back .before .before .before .before .args in (
-      answered-replies (readOf (x .rank) (x .memory .now) (x .line) (replicate 64 0)) (at-rank-read .ensures .0)
+      answered-replies (readOf (x .rank) (x .memory .now) 0 (x .line) (replicate 64 0)) (at-rank-read .ensures .0)
           (at-rank-read .ensures .1 .0) (at-rank-read .ensures .1 .1) (at-first .ensures) (at-if1 .left) (at-spell-read .ensures .0),
       at-spell-read .ensures .1,
     )

@@ -12,7 +12,7 @@ use std::ops::{BitAnd, BitOr, BitXor, Shl, Shr};
 const LINE_BYTES: usize = 81;
 const LINE_LIMIT: u32 = 65_536;
 const STEP: u64 = 0x9e37_79b9_7f4a_7c15;
-const ZERO: Rank = Rank { lines: 0, enable: false, catch_words: [0; 9], registers: [0; 9], repairs: 0 };
+const ZERO: Rank = Rank { lines: 0, enable: false, catch_words: [0; 9], registers: [0; 9], repairs: [0; 8] };
 
 type Line = [u8; LINE_BYTES];
 
@@ -27,7 +27,7 @@ pub extern "C" fn boot(memory: &mut [u8], catch_words: &[u64]) -> Called {
         return Called { refusal: 5, rank: ZERO };
     };
     memory.fill(0);
-    Called { refusal: 0, rank: Rank { lines: lines as u32, enable: true, catch_words, registers: catch_words, repairs: 0 } }
+    Called { refusal: 0, rank: Rank { lines: lines as u32, enable: true, catch_words, registers: catch_words, repairs: [0; 8] } }
 }
 
 /// Lays the nine codewords of 64 bytes.
@@ -44,10 +44,10 @@ pub extern "C" fn write(rank: Rank, memory: &mut [u8], line: u32, data: &[u8]) -
     Called { refusal: 0, rank }
 }
 
-/// Visits a line and puts its 64 bytes in the buffer.
+/// Visits a line for a task and puts its 64 bytes in the buffer.
 #[inline(never)]
-pub extern "C" fn read(rank: Rank, memory: &mut [u8], line: u32, buffer: &mut [u8]) -> ReadResult {
-    let refusal = refused_line(&rank, memory.len(), line);
+pub extern "C" fn read(rank: Rank, memory: &mut [u8], task: u32, line: u32, buffer: &mut [u8]) -> ReadResult {
+    let refusal = refused_visit(&rank, memory.len(), task, line);
     if refusal != 0 {
         return ReadResult { refusal, passes: 0, flagged: 0, collisions: 0, rank };
     }
@@ -63,16 +63,16 @@ pub extern "C" fn read(rank: Rank, memory: &mut [u8], line: u32, buffer: &mut [u
     let Visit { refusal, passes, flagged, collisions } = visit(line, &rank.catch_words, scan);
     let mut answer = ReadResult { refusal, passes, flagged, collisions, rank };
     if refusal == 0 {
-        settle(&mut answer.rank, flagged, collisions);
+        settle(&mut answer.rank, task, flagged, collisions);
         take(line, buffer);
     }
     answer
 }
 
-/// Visits `budget` lines from `first` on, or as many as there are.
+/// Visits `budget` lines for a task from `first` on, or as many as there are.
 #[inline(never)]
-pub extern "C" fn patrol(rank: Rank, memory: &mut [u8], first: u32, budget: u32) -> PatrolResult {
-    let refusal = refused_line(&rank, memory.len(), first);
+pub extern "C" fn patrol(rank: Rank, memory: &mut [u8], task: u32, first: u32, budget: u32) -> PatrolResult {
+    let refusal = refused_visit(&rank, memory.len(), task, first);
     if refusal != 0 {
         return PatrolResult { refusal, visited: 0, refused: 0, rewritten: 0, rank };
     }
@@ -91,7 +91,7 @@ pub extern "C" fn patrol(rank: Rank, memory: &mut [u8], first: u32, budget: u32)
             continue;
         }
         answer.rewritten += visit.flagged.count_ones();
-        settle(&mut answer.rank, visit.flagged, visit.collisions);
+        settle(&mut answer.rank, task, visit.flagged, visit.collisions);
         catch_words = swapped(&answer.rank);
     }
     answer
@@ -142,6 +142,12 @@ fn refused_record(rank: &Rank) -> u32 {
 /// Refusals 12, 13, 14 and 1, in this order.
 #[inline(always)]
 fn refused_line(rank: &Rank, length: usize, line: u32) -> u32 {
+    refused_visit(rank, length, 0, line)
+}
+
+/// Refusals 12, 13, 14, 31 and 1, in this order.
+#[inline(always)]
+fn refused_visit(rank: &Rank, length: usize, task: u32, line: u32) -> u32 {
     if !rank.enable || rank.lines.wrapping_sub(1) >= LINE_LIMIT {
         return 12;
     }
@@ -153,6 +159,9 @@ fn refused_line(rank: &Rank, length: usize, line: u32) -> u32 {
         if rank.registers[k] != rank.catch_words[k] {
             return 14;
         }
+    }
+    if task >= 8 {
+        return 31;
     }
     if line >= rank.lines {
         return 1;
@@ -316,15 +325,16 @@ fn nonzero_bytes(bytes: u64) -> u32 {
     (high >> 7).wrapping_mul(0x0102_0408_1020_4080).wrapping_shr(56) as u32
 }
 
-/// The record after an answered visit: colliding chips' catch-words moved, repairs counted.
+/// The record after an answered visit: colliding chips' catch-words moved, repairs counted for the task.
 #[inline(always)]
-fn settle(rank: &mut Rank, flagged: u32, collisions: u32) {
+fn settle(rank: &mut Rank, task: u32, flagged: u32, collisions: u32) {
     for chip in chips(collisions) {
         let moved = rank.catch_words[chip].wrapping_add(STEP);
         rank.catch_words[chip] = moved;
         rank.registers[chip] = moved;
     }
-    rank.repairs = rank.repairs.saturating_add(flagged.count_ones());
+    let total = &mut rank.repairs[task as usize];
+    *total = total.saturating_add(flagged.count_ones());
 }
 
 /// Two `u64` abreast: the compiler puts them in one register.

@@ -15,6 +15,8 @@ use std::time::Instant;
 const ROUNDS: u32 = 401;
 /// The lines of one timing: few, so that most timings run without being interrupted. Rounds take the parts of a rank in turn.
 const PART: u32 = 4_096;
+/// The task of all timed visits.
+const TASK: u32 = 0;
 
 fn main() {
     agree(200_000);
@@ -37,8 +39,8 @@ fn main() {
 trait Side {
     fn boot(memory: &mut [u8], catch_words: &[u64]) -> Called;
     fn write(rank: Rank, memory: &mut [u8], line: u32, data: &[u8]) -> Called;
-    fn read(rank: Rank, memory: &mut [u8], line: u32, buffer: &mut [u8]) -> ReadResult;
-    fn patrol(rank: Rank, memory: &mut [u8], first: u32, budget: u32) -> PatrolResult;
+    fn read(rank: Rank, memory: &mut [u8], task: u32, line: u32, buffer: &mut [u8]) -> ReadResult;
+    fn patrol(rank: Rank, memory: &mut [u8], task: u32, first: u32, budget: u32) -> PatrolResult;
     fn renew(rank: Rank, chip: u32, catch_word: u64) -> Called;
     fn fault(rank: Rank, memory: &mut [u8], line: u32, chip: u32, pattern: &[u8]) -> Called;
 }
@@ -56,12 +58,12 @@ impl Side for Library {
         unsafe { ffi::rank_write(rank, memory.as_mut_ptr(), memory.len(), line, data.as_ptr(), data.len()) }
     }
     #[inline(always)]
-    fn read(rank: Rank, memory: &mut [u8], line: u32, buffer: &mut [u8]) -> ReadResult {
-        unsafe { ffi::rank_read(rank, memory.as_mut_ptr(), memory.len(), line, buffer.as_mut_ptr(), buffer.len()) }
+    fn read(rank: Rank, memory: &mut [u8], task: u32, line: u32, buffer: &mut [u8]) -> ReadResult {
+        unsafe { ffi::rank_read(rank, memory.as_mut_ptr(), memory.len(), task, line, buffer.as_mut_ptr(), buffer.len()) }
     }
     #[inline(always)]
-    fn patrol(rank: Rank, memory: &mut [u8], first: u32, budget: u32) -> PatrolResult {
-        unsafe { ffi::rank_patrol(rank, memory.as_mut_ptr(), memory.len(), first, budget) }
+    fn patrol(rank: Rank, memory: &mut [u8], task: u32, first: u32, budget: u32) -> PatrolResult {
+        unsafe { ffi::rank_patrol(rank, memory.as_mut_ptr(), memory.len(), task, first, budget) }
     }
     #[inline(always)]
     fn renew(rank: Rank, chip: u32, catch_word: u64) -> Called {
@@ -85,12 +87,12 @@ impl Side for Fast {
         fast::write(rank, memory, line, data)
     }
     #[inline(always)]
-    fn read(rank: Rank, memory: &mut [u8], line: u32, buffer: &mut [u8]) -> ReadResult {
-        fast::read(rank, memory, line, buffer)
+    fn read(rank: Rank, memory: &mut [u8], task: u32, line: u32, buffer: &mut [u8]) -> ReadResult {
+        fast::read(rank, memory, task, line, buffer)
     }
     #[inline(always)]
-    fn patrol(rank: Rank, memory: &mut [u8], first: u32, budget: u32) -> PatrolResult {
-        fast::patrol(rank, memory, first, budget)
+    fn patrol(rank: Rank, memory: &mut [u8], task: u32, first: u32, budget: u32) -> PatrolResult {
+        fast::patrol(rank, memory, task, first, budget)
     }
     #[inline(always)]
     fn renew(rank: Rank, chip: u32, catch_word: u64) -> Called {
@@ -251,7 +253,7 @@ fn reads<S: Side>(booted: &mut Booted, part: Range<u32>, passes: u32) {
     let mut buffer = [0; 64];
     let mut other = 0;
     for line in part {
-        let read = S::read(booted.rank, &mut booted.memory, black_box(line), black_box(&mut buffer));
+        let read = S::read(booted.rank, &mut booted.memory, black_box(TASK), black_box(line), black_box(&mut buffer));
         other += u32::from(read.refusal != 0 || read.passes != passes);
         booted.rank = read.rank;
     }
@@ -269,7 +271,7 @@ fn writes<S: Side>(booted: &mut Booted, part: Range<u32>, data: &[[u8; 64]]) {
 }
 
 fn patrols<S: Side>(booted: &mut Booted, part: Range<u32>) {
-    let done = S::patrol(booted.rank, black_box(&mut booted.memory), part.start, PART);
+    let done = S::patrol(booted.rank, black_box(&mut booted.memory), black_box(TASK), part.start, PART);
     assert!(done.refusal == 0 && done.visited == PART && done.refused == 0 && done.rewritten == 0);
     booted.rank = done.rank;
 }
@@ -333,7 +335,7 @@ fn agree(calls: u32) {
         }
         seen.append(&mut pair.seen);
     }
-    assert!(seen.iter().eq(&[0, 1, 2, 3, 4, 5, 11, 12, 13, 14, 20, 21]), "only refusals {seen:?} came up");
+    assert!(seen.iter().eq(&[0, 1, 2, 3, 4, 5, 11, 12, 13, 14, 20, 21, 31]), "only refusals {seen:?} came up");
     println!("Library and safe Rust agree on {calls} random calls, with every refusal among them.");
 }
 
@@ -359,6 +361,7 @@ impl Pair {
 
     fn call(&mut self, random: &mut Random) {
         let line = random.below(self.rank.lines + 1);
+        let task = if random.below(16) == 0 { [8, 256, 1 << 31, u32::MAX][random.below(4) as usize] } else { random.below(8) };
         let rank = self.maybe_broken(random);
         match random.below(16) {
             0 if random.below(8) == 0 => self.boot(random),
@@ -397,14 +400,14 @@ impl Pair {
             10..=13 => {
                 let length = if random.below(16) == 0 { 63 + 2 * random.below(2) as usize } else { 64 };
                 let (mut p, mut q) = (vec![0x5a; length], vec![0x5a; length]);
-                let a = Library::read(rank, &mut self.library, line, &mut p);
-                let b = Fast::read(rank, &mut self.fast, line, &mut q);
+                let a = Library::read(rank, &mut self.library, task, line, &mut p);
+                let b = Fast::read(rank, &mut self.fast, task, line, &mut q);
                 self.keep(rank, a == b && p == q, a.refusal, a.rank);
             }
             _ => {
                 let budget = [random.below(4), u32::MAX][random.below(2) as usize];
-                let a = Library::patrol(rank, &mut self.library, line, budget);
-                let b = Fast::patrol(rank, &mut self.fast, line, budget);
+                let a = Library::patrol(rank, &mut self.library, task, line, budget);
+                let b = Fast::patrol(rank, &mut self.fast, task, line, budget);
                 self.keep(rank, a == b, a.refusal, a.rank);
             }
         }
@@ -417,7 +420,7 @@ impl Pair {
             0 => rank.enable = false,
             1 => rank.lines = [0, 2, 65_537, u32::MAX][random.below(4) as usize],
             2 => rank.registers[random.below(9) as usize] ^= 1,
-            3 => rank.repairs = u32::MAX - 1,
+            3 => rank.repairs[random.below(8) as usize] = u32::MAX - 1,
             _ => {}
         }
         rank

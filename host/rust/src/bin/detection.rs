@@ -27,6 +27,8 @@ const EXHAUSTIVE: u32 = 5;
 const SAMPLES: u64 = 2_000_000;
 /// Lines of the rank: so many patterns share a patrol.
 const LINES: u32 = 1024;
+/// The task that all visits name.
+const TASK: u32 = 0;
 const SEED: u64 = 20_160_618;
 
 /// Table II, CRC8-ATM, random errors of 1 to 8 bits, in percent as printed. Every burst is 100 there.
@@ -102,7 +104,7 @@ impl Bench {
 
     /// Visits the damaged lines. One chip is damaged in each, so each word rewritten is a pattern detected.
     fn patrol(&mut self) {
-        let patrol = self.rank.patrol(&mut self.memory, 0, self.filled).expect("patrol");
+        let patrol = self.rank.patrol(&mut self.memory, TASK, 0, self.filled).expect("patrol");
         assert_eq!(patrol.visited, self.filled);
         assert_eq!(patrol.rewritten + patrol.refused, self.filled, "each line is repaired or refused");
         let undetected = if self.memory == self.sound { 0 } else { self.clear_undetected() };
@@ -118,7 +120,7 @@ impl Bench {
         for (line, data) in (0..self.filled).zip(&self.lines) {
             let at = LINE_BYTES * line as usize;
             if self.memory[at..at + LINE_BYTES] != self.sound[at..at + LINE_BYTES] {
-                let refused = self.rank.read(&mut self.memory, line, &mut [0; 64]).expect_err("a damaged line");
+                let refused = self.rank.read(&mut self.memory, TASK, line, &mut [0; 64]).expect_err("a damaged line");
                 assert_eq!((refused.refusal, refused.visit.flagged), (Refusal::Parity, 0));
                 self.rank.write(&mut self.memory, line, data).expect("write");
                 undetected += 1;

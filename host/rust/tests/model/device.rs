@@ -1,4 +1,5 @@
-//! Document 01 without "Plain memory": the record, the memory, the visit by its steps and the six calls.
+//! Document 01 without "Plain memory", with the tasks of document 02's Req 01: the record, the memory, the visit by its
+//! steps and the six calls.
 use super::code::{self, Cell};
 
 /// "Line L begins at byte 81 × L" ("The rank").
@@ -11,7 +12,8 @@ pub struct Record {
     pub enable: bool,
     pub catch_words: [u64; 9],
     pub registers: [u64; 9],
-    pub total: u32,
+    /// "The record's one total becomes eight" (Req 01).
+    pub totals: [u32; 8],
 }
 
 impl Record {
@@ -23,7 +25,7 @@ impl Record {
 
     /// "Its fresh value (every field zero)" ("The rank").
     pub fn fresh() -> Record {
-        Record { lines: 0, enable: false, catch_words: [0; 9], registers: [0; 9], total: 0 }
+        Record { lines: 0, enable: false, catch_words: [0; 9], registers: [0; 9], totals: [0; 8] }
     }
 }
 
@@ -147,8 +149,8 @@ fn look(record: &Record, memory: &[u8], line: u32) -> Visit {
     visit
 }
 
-/// "A visit to a line" with step 6: "Only an answered line is written back".
-fn visit(record: &mut Record, memory: &mut [u8], line: u32) -> Visit {
+/// "A visit to a line" with step 6: "Only an answered line is written back", and "only that task's total moves" (Req 01).
+fn visit(record: &mut Record, memory: &mut [u8], task: u32, line: u32) -> Visit {
     let visit = look(record, memory, line);
     let Ok(words) = visit.words else { return visit };
     for (chip, &word) in words.iter().enumerate() {
@@ -160,7 +162,9 @@ fn visit(record: &mut Record, memory: &mut [u8], line: u32) -> Visit {
             record.registers[chip] = record.registers[chip].wrapping_add(Record::STEP);
         }
     }
-    record.total = record.total.saturating_add(visit.flagged.count_ones());
+    // The eight, "each stopping at 4,294,967,295" (Req 01).
+    let total = &mut record.totals[task as usize];
+    *total = total.saturating_add(visit.flagged.count_ones());
     visit
 }
 
@@ -189,6 +193,11 @@ fn registers_differ(record: &Record) -> bool {
     record.registers != record.catch_words
 }
 
+/// Refusal 31: "task not below 8, tested after 14 and before 1" (Req 01).
+fn no_task(task: u32) -> bool {
+    task >= 8
+}
+
 /// Boot ("The calls"). "A refused boot returns one with every field zero."
 pub fn boot(memory: &mut [u8], catch_words: &[u64]) -> Called {
     let refusal = first_met(&[(no_rank(memory), 11), (catch_words.len() != 9, 5)]);
@@ -198,7 +207,7 @@ pub fn boot(memory: &mut [u8], catch_words: &[u64]) -> Called {
     memory.fill(0);
     let catch_words: [u64; 9] = catch_words.try_into().unwrap();
     let lines = (memory.len() / LINE) as u32;
-    Called { refusal, record: Record { lines, enable: true, catch_words, registers: catch_words, total: 0 } }
+    Called { refusal, record: Record { lines, enable: true, catch_words, registers: catch_words, totals: [0; 8] } }
 }
 
 /// Write: "lays nine codewords of 64 bytes" ("The calls").
@@ -220,19 +229,20 @@ pub fn write(record: Record, memory: &mut [u8], line: u32, data: &[u8]) -> Calle
     Called { refusal, record }
 }
 
-/// Read: "a visit that puts the line in a 64-byte buffer" ("The calls").
-pub fn read(mut record: Record, memory: &mut [u8], line: u32, buffer: &mut [u8]) -> Read {
+/// Read: "a visit that puts the line in a 64-byte buffer" ("The calls"), for a task (Req 01).
+pub fn read(mut record: Record, memory: &mut [u8], task: u32, line: u32, buffer: &mut [u8]) -> Read {
     let refusal = first_met(&[
         (not_ready(&record), 12),
         (other_length(&record, memory), 13),
         (registers_differ(&record), 14),
+        (no_task(task), 31),
         (line >= record.lines, 1),
         (buffer.len() != 64, 2),
     ]);
     if refusal != 0 {
         return Read { refusal, passes: 0, flagged: 0, collisions: 0, record };
     }
-    let visit = visit(&mut record, memory, line);
+    let visit = visit(&mut record, memory, task, line);
     let refusal = match visit.words {
         Ok(words) => {
             for chip in 0..8 {
@@ -245,12 +255,14 @@ pub fn read(mut record: Record, memory: &mut [u8], line: u32, buffer: &mut [u8])
     Read { refusal, passes: visit.passes, flagged: visit.flagged, collisions: visit.collisions, record }
 }
 
-/// Patrol: "visits min(budget, N − first) lines", and "a refused line doesn't stop it" ("The calls").
-pub fn patrol(record: Record, memory: &mut [u8], first: u32, budget: u32) -> Patrol {
+/// Patrol: "visits min(budget, N − first) lines", and "a refused line doesn't stop it" ("The calls"). One task is named
+/// "for all their visits" (Req 01).
+pub fn patrol(record: Record, memory: &mut [u8], task: u32, first: u32, budget: u32) -> Patrol {
     let refusal = first_met(&[
         (not_ready(&record), 12),
         (other_length(&record, memory), 13),
         (registers_differ(&record), 14),
+        (no_task(task), 31),
         (first >= record.lines, 1),
     ]);
     let mut patrol = Patrol { refusal, visited: 0, refused: 0, rewritten: 0, record };
@@ -258,7 +270,7 @@ pub fn patrol(record: Record, memory: &mut [u8], first: u32, budget: u32) -> Pat
         return patrol;
     }
     for line in first..first + budget.min(record.lines - first) {
-        let visit = visit(&mut patrol.record, memory, line);
+        let visit = visit(&mut patrol.record, memory, task, line);
         patrol.visited += 1;
         match visit.words {
             Ok(_) => patrol.rewritten += visit.flagged.count_ones(),

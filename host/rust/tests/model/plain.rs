@@ -1,4 +1,5 @@
-//! Document 01, "Plain memory": it knows neither record nor chips, and no catch-words.
+//! Document 01, "Plain memory": it knows neither record nor chips, and no catch-words. Of a task it only sees whether
+//! there is one of that number (document 02, Req 01).
 use super::code::{self, Cell};
 
 /// What it keeps for each line: 64 bytes and nine patterns, "all zero after boot".
@@ -60,6 +61,15 @@ impl Plain {
         Plain { lines: vec![Line { bytes: [0; 64], patterns: [[0; 9]; 9] }; lines] }
     }
 
+    /// Refusal 31: "task not below 8", "tested after 14 and before 1" (Req 01).
+    fn task(task: u32) -> Result<(), u32> {
+        if task < 8 {
+            Ok(())
+        } else {
+            Err(31)
+        }
+    }
+
     /// Refusal 1: "not below N".
     fn line(&mut self, line: u32) -> Result<&mut Line, u32> {
         self.lines.get_mut(line as usize).ok_or(1)
@@ -73,8 +83,9 @@ impl Plain {
         Ok(())
     }
 
-    /// "A read is one visit, and its answer is the 64 bytes." Refusals 1, 2, 21.
-    pub fn read(&mut self, line: u32, buffer_length: usize) -> Result<[u8; 64], u32> {
+    /// "A read is one visit, and its answer is the 64 bytes." Refusals 31, 1, 2, 21.
+    pub fn read(&mut self, task: u32, line: u32, buffer_length: usize) -> Result<[u8; 64], u32> {
+        Plain::task(task)?;
         let line = self.line(line)?;
         if buffer_length != 64 {
             return Err(2);
@@ -82,8 +93,9 @@ impl Plain {
         line.visit()
     }
 
-    /// The lines that a patrol would visit: "min(budget, N − first)" from first upwards. Refusal 1.
-    pub fn patrolled(&self, first: u32, budget: u32) -> Result<std::ops::Range<usize>, u32> {
+    /// The lines that a patrol would visit: "min(budget, N − first)" from first upwards. Refusals 31, 1.
+    pub fn patrolled(&self, task: u32, first: u32, budget: u32) -> Result<std::ops::Range<usize>, u32> {
+        Plain::task(task)?;
         let first = first as usize;
         if first >= self.lines.len() {
             return Err(1);
@@ -92,9 +104,9 @@ impl Plain {
     }
 
     /// Patrol "counts the visited and the refused".
-    pub fn patrol(&mut self, first: u32, budget: u32) -> Result<(u32, u32), u32> {
+    pub fn patrol(&mut self, task: u32, first: u32, budget: u32) -> Result<(u32, u32), u32> {
         let (mut visited, mut refused) = (0, 0);
-        for line in self.patrolled(first, budget)? {
+        for line in self.patrolled(task, first, budget)? {
             visited += 1;
             if self.lines[line].visit().is_err() {
                 refused += 1;

@@ -135,16 +135,16 @@ pub fn write(rank: Rank, memory: &mut Guarded<u8>, line: u32, data: &[u8]) -> Ca
 }
 
 /// Hands back the bytes of the read's buffer too.
-pub fn read(rank: Rank, memory: &mut Guarded<u8>, line: u32, buffer: &[u8]) -> (ReadResult, Vec<u8>) {
+pub fn read(rank: Rank, memory: &mut Guarded<u8>, task: u32, line: u32, buffer: &[u8]) -> (ReadResult, Vec<u8>) {
     let mut lent = lend(buffer);
-    let read = unsafe { ffi::rank_read(rank, memory.pointer(), memory.length, line, lent.pointer(), buffer.len()) };
+    let read = unsafe { ffi::rank_read(rank, memory.pointer(), memory.length, task, line, lent.pointer(), buffer.len()) };
     memory.check_guards();
     lent.check_guards();
     (read, lent.inside().to_vec())
 }
 
-pub fn patrol(rank: Rank, memory: &mut Guarded<u8>, first: u32, budget: u32) -> PatrolResult {
-    let patrol = unsafe { ffi::rank_patrol(rank, memory.pointer(), memory.length, first, budget) };
+pub fn patrol(rank: Rank, memory: &mut Guarded<u8>, task: u32, first: u32, budget: u32) -> PatrolResult {
+    let patrol = unsafe { ffi::rank_patrol(rank, memory.pointer(), memory.length, task, first, budget) };
     memory.check_guards();
     patrol
 }
@@ -161,12 +161,15 @@ pub fn fault(rank: Rank, memory: &mut Guarded<u8>, line: u32, chip: u32, pattern
     called
 }
 
+/// Task numbers that are not below 8. Most equal a task modulo a power of two, and some are below 8 if they are taken as signed.
+pub const FAR_TASKS: [u32; 15] = [8, 9, 10, 15, 16, 31, 64, 255, 256, 256 + 3, 65_536 + 5, 1 << 31, (1 << 31) + 6, u32::MAX - 7, u32::MAX];
+
 /// One call of a fault list with its arguments; a read's buffer as it is before the call.
 #[derive(Clone, Debug)]
 pub enum Call {
     Write { line: u32, data: Vec<u8> },
-    Read { line: u32, buffer: Vec<u8> },
-    Patrol { first: u32, budget: u32 },
+    Read { task: u32, line: u32, buffer: Vec<u8> },
+    Patrol { task: u32, first: u32, budget: u32 },
     Renew { chip: u32, catch_word: u64 },
     Fault { line: u32, chip: u32, pattern: Vec<u8> },
 }
@@ -181,6 +184,23 @@ pub struct Outcome {
 }
 
 impl Call {
+    /// The task that it names, for a read or a patrol.
+    pub fn task(&self) -> Option<u32> {
+        match self {
+            Call::Read { task, .. } | Call::Patrol { task, .. } => Some(*task),
+            _ => None,
+        }
+    }
+
+    /// How many words it rewrote, by what it gave: a read's flagged chips if it was answered, a patrol's own count.
+    pub fn rewritten(&self, outcome: &Outcome) -> u32 {
+        match self {
+            Call::Read { .. } if outcome.refusal == 0 => outcome.counts[1].count_ones(),
+            Call::Patrol { .. } => outcome.counts[2],
+            _ => 0,
+        }
+    }
+
     /// Its row in the tally.
     pub fn row(&self) -> usize {
         match self {
@@ -197,12 +217,12 @@ impl Call {
         let plain = |called: Called| Outcome { refusal: called.refusal, counts: [0; 3], rank: called.rank, buffer: Vec::new() };
         match self {
             Call::Write { line, data } => plain(write(rank, memory, *line, data)),
-            Call::Read { line, buffer } => {
-                let (read, buffer) = read(rank, memory, *line, buffer);
+            Call::Read { task, line, buffer } => {
+                let (read, buffer) = read(rank, memory, *task, *line, buffer);
                 Outcome { refusal: read.refusal, counts: [read.passes, read.flagged, read.collisions], rank: read.rank, buffer }
             }
-            Call::Patrol { first, budget } => {
-                let patrol = patrol(rank, memory, *first, *budget);
+            Call::Patrol { task, first, budget } => {
+                let patrol = patrol(rank, memory, *task, *first, *budget);
                 let counts = [patrol.visited, patrol.refused, patrol.rewritten];
                 Outcome { refusal: patrol.refusal, counts, rank: patrol.rank, buffer: Vec::new() }
             }
@@ -215,17 +235,23 @@ impl Call {
 /// The rows of a tally.
 pub const CALLS: [&str; 6] = ["boot", "write", "read", "patrol", "renew", "fault"];
 
-/// Its columns: document 01's refusal numbers, 0 for none.
-pub const REFUSALS: [u32; 12] = [0, 1, 2, 3, 4, 5, 11, 12, 13, 14, 20, 21];
+/// Its columns: the refusal numbers of documents 01 and 02, 0 for none.
+pub const REFUSALS: [u32; 13] = [0, 1, 2, 3, 4, 5, 11, 12, 13, 14, 20, 21, 31];
 
 /// The refusals that each call can have, in the order of `CALLS`.
-pub const POSSIBLE: [&[u32]; 6] =
-    [&[0, 5, 11], &[0, 1, 2, 12, 13, 14], &[0, 1, 2, 12, 13, 14, 20, 21], &[0, 1, 12, 13, 14], &[0, 3, 12, 14], &[0, 1, 3, 4, 12, 13, 14]];
+pub const POSSIBLE: [&[u32]; 6] = [
+    &[0, 5, 11],
+    &[0, 1, 2, 12, 13, 14],
+    &[0, 1, 2, 12, 13, 14, 20, 21, 31],
+    &[0, 1, 12, 13, 14, 31],
+    &[0, 3, 12, 14],
+    &[0, 1, 3, 4, 12, 13, 14],
+];
 
 /// How often each refusal and each named case was reached.
 #[derive(Default)]
 pub struct Tally {
-    table: [[u64; 22]; 6],
+    table: [[u64; 32]; 6],
     cases: BTreeMap<&'static str, u64>,
 }
 

@@ -7,16 +7,16 @@ use Rattle.rank.proofs.record.repaired.Tie as tie
 
 returns : tie.Need-returns
 returns c =
-    let s = c .before .before in
+    let s = c .before .before .before in
     let a = s .args in
     (λ i. record {
       lines = a .rank .lines;
       enable = a .rank .enable;
       «catch_words» = a .rank .«catch_words»;
       registers = a .rank .registers;
-      repairs = (c .total-after .ensures) i;
+      repairs = (c .counted .ensures) i;
     })
-    ∙ sym (settled-unmoved (a .report) (a .rank) (s .pre .0) (s .pre .1) (search needs) (search needs))
+    ∙ sym (settled-unmoved (a .task) (a .report) (a .rank) (s .pre .1) (s .pre .2) (search needs) (search needs))
 
 pub repaired-spec : {M : Type 1} → statement M
 repaired-spec =

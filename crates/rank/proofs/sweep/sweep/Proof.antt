@@ -1,9 +1,13 @@
 -- `rank::sweep::sweep` meets its contract. Assumes nothing.
 use mathlib.Core.Path.{_≡_, sym, _∙_}
 use mathlib.Core.Logic.{⊎-elim}
-use Prim.Native.Nat.{_-_}
+use Prim.Native.Nat.{_-_, _≤_}
+use lib.ListN.{getD}
+use mir.Syntax.{w32}
+use mir.Val.{Fits}
 use native.Mathlib.Omega.{arith}
 use Rattle.rank.specs.SweepLaws.{Swept, swept-none, swept-more, tallied-still, flagged-most, all-refused, all-rewritten, all-ended}
+use Rattle.rank.specs.Record.{totalLimit}
 use Rattle.rank.specs.Sweep.{tallied}
 use borrow.Author.Needs.{needs}
 use borrow.Author.Tests.{not-false}
@@ -11,10 +15,16 @@ use Rattle.rank.proofs.sweep.sweep.Statement.{statement}
 use Rattle.rank.proofs.sweep.sweep.Tie as tie
 
 abbrev Inv-loop : tie.InvT-loop
-Inv-loop memory₀ first n tally₀ i₀ memory tally i = Swept (tally₀ .rank) memory₀ first n tally memory i
+Inv-loop memory₀ task first n tally₀ i₀ memory tally i = Swept task (tally₀ .rank) memory₀ first n tally memory i
 
 abbrev μ-loop : tie.MeasureT-loop
-μ-loop memory₀ first n tally₀ i₀ memory tally i = n - i
+μ-loop memory₀ task first n tally₀ i₀ memory tally i = n - i
+
+-- what the record's type says of the task's total
+total : (x : tie.Start Inv-loop μ-loop) → getD (x .args .rank .repairs) (x .args .task) 0 ≤ totalLimit
+total x =
+    let fits : Fits w32 (getD (x .args .rank .repairs) (x .args .task) 0) = search needs in
+    omega (arith, fits .fits)
 
 visit-requires : tie.Need-visit-requires Inv-loop μ-loop
 visit-requires c κs =
@@ -23,19 +33,28 @@ visit-requires c κs =
 tallied-requires : tie.Need-tallied-requires Inv-loop μ-loop
 tallied-requires c κs =
     let loop = c .before .before .before .before .before .before .before .before .before .loop in
-    let v = c .before .before .before .before .visit in
-    (omega (arith, (loop .inv .few-refused)), omega (arith, (loop .inv .few-rewritten), flagged-most _ _ (v .result) (v .ensures .0)))
+    let v = c .before .before .before .before .visit in (
+      omega (arith, (loop .inv .few-refused)),
+      omega (arith, (loop .inv .few-rewritten), flagged-most _ _ (v .result) (v .ensures .0)),
+      c .before .before .before .before .before .before .before .before .before .before .before .pre .1,
+    )
+
+abbrev start : tie.Joined1 Inv-loop μ-loop → tie.Start Inv-loop μ-loop
+start c = c .before .before .before .before .before .before .before .before .before .before .before
 
 -- the visit is counted, or there is nothing to count
 counts : (c : tie.Joined1 Inv-loop μ-loop)
-    → c .if1 .tally ≡ tallied (c .before .before .before .before .before .before .before .before .before .loop .tally)
+    → c .if1 .tally
+    ≡ tallied (start c .args .task) (c .before .before .before .before .before .before .before .before .before .loop .tally)
     (c .before .before .before .before .visit .result)
 counts c =
     let loop = c .before .before .before .before .before .before .before .before .before .loop in
     let v = c .before .before .before .before .visit in
     ⊎-elim (λ w. w .2 ∙ w .1 .ensures)
-    (λ w. w .1 ∙ sym (tallied-still (loop .tally) (v .result) (sym (c .before .is-still .ensures) ∙ not-false _ (w .0 .left)) (loop .inv .words)
-    (loop .inv .registers) (loop .inv .total)))
+    (λ w.
+    w .1
+    ∙ sym (tallied-still (start c .args .task) (loop .tally) (v .result) (sym (c .before .is-still .ensures) ∙ not-false _ (w .0 .left))
+    (loop .inv .words) (loop .inv .registers) (loop .inv .total)))
     (c .if1 .came)
 
 loop-again : tie.Need-loop-again Inv-loop μ-loop
@@ -57,7 +76,7 @@ sweep-spec =
     (tie.spec
     Inv-loop
     μ-loop
-    (λ c. swept-none _ _ _ _ (search needs) (search needs) (omega arith))
+    (λ c. swept-none _ _ _ _ _ (search needs) (search needs) (total (c .before)))
     (λ c. search needs)
     visit-requires
     (λ c κs. search needs)

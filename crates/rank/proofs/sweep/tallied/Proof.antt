@@ -13,7 +13,7 @@ returns c =
     let a = c .before .before .before .before .before .args in
     let settle = c .before .before .before .settle in
     ap (λ (x : Rank). record { refused = a .tally .refused + 1; rewritten = a .tally .rewritten; rank = x }) (settle .ensures)
-    ∙ sym (tallied-refused (a .tally) (a .report) _ (c .before .enum-told2 .given .1))
+    ∙ sym (tallied-refused (a .task) (a .tally) (a .report) _ (c .before .enum-told2 .given .1))
 
 returns-2 : tie.Need-returns-2
 returns-2 c =
@@ -21,7 +21,7 @@ returns-2 c =
     let settle = c .before .before .before .before .settle in
     ap (λ (x : Rank). record { refused = a .tally .refused; rewritten = a .tally .rewritten + ones (a .report .flagged); rank = x })
     (settle .ensures)
-    ∙ sym (tallied-answered (a .tally) (a .report) (c .before .before .enum-told .given .1))
+    ∙ sym (tallied-answered (a .task) (a .tally) (a .report) (c .before .before .enum-told .given .1))
 
 pub tallied-spec : {M : Type 1} → statement M
 tallied-spec =
