@@ -8,9 +8,15 @@
  * chips, each with an eight-byte word and a check byte; chips 0 to 7 hold the line, chip 8 the xor of their words.
  * Proved for every list of calls from an accepted boot, while the premise holds: a read gives the line last written,
  * 64 zeros if none was, or it refuses with 21; it does not refuse if one chip alone is damaged, or each chip in one bit
- * at most; and it repairs the memory. The premise, at each visit to a line: no chip's damage makes another codeword of
- * its codeword, and at most one chip has more than one bad bit. Beyond the premise a read may refuse with 20 or 21, and
- * it may give another line.
+ * at most, or every chip but one in one bit at most and that one is beyond mending; and it repairs the memory. A chip
+ * is beyond mending if it holds no codeword and no single bit, inverted, would make one. The premise, at each visit to
+ * a line: no chip's damage makes another codeword of its codeword, and at most one chip has more than one bad bit.
+ *
+ * Outside the premise a read may refuse with 20 or 21, and a line that it gives may not be the one written. An example:
+ * chip 0 has two bad bits, 300h in its word, and is beyond mending; chip 1 has three, 07h in its check byte, which its
+ * code takes for one in its word, so that it inverts a bit that was right and says that it mended. Chip 0 is rebuilt
+ * from that word. The read gives a line with two wrong bits, the lowest of either word, and the memory then holds that
+ * line. Earlier versions refused this with 21.
  *
  * What a caller owes
  *
@@ -82,7 +88,8 @@ enum RankRefusal {
 
     /* Caused by damage that can't be undone. */
     RANK_PARITY = 20, /* no chip is flagged, and the nine words don't xor to zero */
-    RANK_MENDED = 21  /* two or more chips are flagged, and the nine mended words don't xor to zero */
+    RANK_MENDED = 21  /* two or more chips are flagged, and two or more of them are beyond mending, or none is and the
+                         words don't xor to zero */
 };
 
 /* The record of a rank. */
@@ -137,9 +144,10 @@ Called rank_write(Rank rank, uint8_t *memory, size_t memory_len, uint32_t line, 
 /*
  * Visits a line for a task and puts its 64 bytes in the buffer. The task stands before the line.
  * Refusals: 12, 13, 14, 31, 1, 2, then 20 or 21.
- * One flagged chip is rebuilt from the other eight; two or more are mended by their own codes. Each flagged chip gets
- * the word so found and its check byte in the memory, and the task's repair total grows by their number. Each colliding
- * chip gets another catch-word: 9E3779B97F4A7C15h is added to both copies, modulo 2^64.
+ * One flagged chip is rebuilt from the other eight; two or more are mended by their own codes, and if one of them is
+ * beyond mending, it is rebuilt from the other eight then. Each flagged chip gets the word so found and its check byte
+ * in the memory, and the task's repair total grows by their number. Each colliding chip gets another catch-word:
+ * 9E3779B97F4A7C15h is added to both copies, modulo 2^64.
  * After 20 or 21 the memory is as before, so the line is refused again until it is written.
  */
 ReadResult rank_read(Rank rank, uint8_t *memory, size_t memory_len, uint32_t task, uint32_t line, uint8_t *buffer,

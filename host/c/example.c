@@ -51,7 +51,7 @@ static const char *refusal_words(uint32_t refusal) {
     case RANK_MEMORY_LENGTH: return "the memory has not the length that it had at boot";
     case RANK_REGISTERS: return "a chip's register differs from its catch-word";
     case RANK_PARITY: return "no chip knows that it is bad, but the nine words don't fit together";
-    case RANK_MENDED: return "two or more chips are bad, and mending them doesn't make the nine words fit together";
+    case RANK_MENDED: return "two chips or more can't mend their words, or the mended words don't fit together";
     default: return "no refusal of this library";
     }
 }
@@ -123,7 +123,8 @@ static void tell(uint32_t line, const ReadResult *read) {
     } else {
         printf("chips ");
         print_chips(read->flagged);
-        printf(" were mended by their own codes");
+        /* Which of them, if any, was rebuilt is not reported. */
+        printf(" were mended by their own codes, or one of them rebuilt");
     }
     if (read->collisions != 0) {
         printf(", data met the catch-word of chip ");
@@ -156,10 +157,12 @@ static void damage(uint32_t line, uint32_t chip, const uint8_t pattern[RANK_PATT
     expect(called.refusal == RANK_OK, "fault");
 }
 
-/* Four patterns: word, highest byte first, then check byte. */
+/* Five patterns: word, highest byte first, then check byte. Two bits are always beyond mending; these three are mended
+   as one, by inverting a bit that was right. */
 static const uint8_t whole_chip[] = {0xde, 0xad, 0xbe, 0xef, 0xde, 0xad, 0xbe, 0xef, 0x5a};
 static const uint8_t one_bit[] = {0, 0, 0x10, 0, 0, 0, 0, 0, 0};
 static const uint8_t two_bits[] = {0, 0, 0x10, 0, 0, 0, 0x01, 0, 0};
+static const uint8_t three_bits[] = {0, 0, 0, 0, 0, 0, 0, 0, 0x07};
 static const uint8_t codeword[] = {0, 0, 0, 0, 0, 0, 0, 1, 0x07};
 
 static void damage_that_is_undone(void) {
@@ -176,9 +179,16 @@ static void damage_that_is_undone(void) {
     read = look(2);
     expect(read.refusal == RANK_OK && read.passes == 3 && read.flagged == (1u << 3 | 1u << 8), "two chips mended");
 
+    /* Chip 0 says that it can't mend its word, and chip 6 mends its own: chip 0 is rebuilt from the other eight. */
+    damage(2, 0, two_bits);
+    damage(2, 6, one_bit);
+    read = look(2);
+    expect(read.refusal == RANK_OK && read.passes == 3 && read.flagged == (1u << 0 | 1u << 6),
+           "one chip mended and one rebuilt");
+
     /* Each visit repairs the memory too. */
     read = look(2);
-    expect(read.refusal == RANK_OK && read.passes == 1 && rank.repairs[MAP_TASK] == 3, "a repaired line");
+    expect(read.refusal == RANK_OK && read.passes == 1 && rank.repairs[MAP_TASK] == 5, "a repaired line");
 }
 
 /* Data that equals a chip's catch-word: the chip is sound, and the read finds that out. */
@@ -233,15 +243,22 @@ static void repairs_by_task(void) {
         sum += rank.repairs[task];
     printf("words repaired for the map task: %u, for the patrol task: %u, in all: %llu\n",
            (unsigned)rank.repairs[MAP_TASK], (unsigned)rank.repairs[PATROL_TASK], (unsigned long long)sum);
-    expect(rank.repairs[MAP_TASK] == 3 && rank.repairs[PATROL_TASK] == 3 && sum == 6, "the repairs of each task");
+    expect(rank.repairs[MAP_TASK] == 5 && rank.repairs[PATROL_TASK] == 3 && sum == 8, "the repairs of each task");
 }
 
 static void damage_that_is_not_undone(void) {
     printf("\nDamage that can't be undone\n");
-    damage(2, 0, two_bits);
+    damage(2, 0, three_bits);
     damage(2, 1, one_bit);
     ReadResult read = look(2);
-    expect(read.refusal == RANK_MENDED && read.passes == 3 && read.flagged == 3, "damage beyond mending");
+    expect(read.refusal == RANK_MENDED && read.passes == 3 && read.flagged == 3, "a chip that mends wrongly");
+    read = look(2);
+    expect(read.refusal == RANK_OK && read.passes == 1, "a line written again");
+
+    damage(2, 0, two_bits);
+    damage(2, 1, two_bits);
+    read = look(2);
+    expect(read.refusal == RANK_MENDED && read.passes == 3 && read.flagged == 3, "two chips beyond mending");
     read = look(2);
     expect(read.refusal == RANK_OK && read.passes == 1, "a line written again");
 }

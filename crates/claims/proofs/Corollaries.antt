@@ -1,18 +1,21 @@
 -- What follows for a reader, each in one theorem. Demand 1, for each of the six calls and every input: a refusal changes no lent byte and
--- returns the record given, and a call is refused exactly where a condition of its list holds. Demand 3: one damaged chip, one-bit damages,
--- and that an answered read never gives another line. r stands for the record and m for the lent memory.
+-- returns the record given, and a call is refused exactly where a condition of its list holds. Demand 3, under the premise: one damaged
+-- chip, one-bit damages, one chip beyond mending beside them, and that an answered read never gives another line; also that a visit that
+-- answered before chips told their status answers the same. r stands for the record and m for the lent memory.
 -- Assumes nothing.
 use mathlib.Core.Path.{_≡_, refl, sym, ap, _∙_, subst}
 use mathlib.Core.Logic.{_↔_, _≢_}
 use mathlib.Core.Bool.{Bool, true, false, cond}
 use mathlib.Core.List.{List, [], _∷_}
-use Prim.Native.Nat.{ℕ, zero, suc, _/_, _<_}
+use Prim.Native.Nat.{ℕ, zero, suc, _/_, _≤_, _<_}
 use native.Mathlib.Omega.{arith}
 use lib.Dec.{eqb, ltb}
 use lib.ListN.{length, replicate}
 use borrow.Author.Tests.{lt-ltb, eq-eqb, ne-eqb}
 use Rattle.code.specs.Code.{isCodeword}
-use Rattle.line.specs.Visit.{outcomeOf, bytesBy, bytesAfter, reportOf, refusalOf}
+use Rattle.line.specs.Visit.{beyondChips, outcomeOf, bytesBy, bytesAfter, reportOf, refusalOf}
+use Rattle.line.specs.Former.{formerOutcome, AsBefore}
+use Rattle.line.specs.FormerLaws.{former-answered}
 use Rattle.line.specs.declared.Outcome.{Outcome}
 use Rattle.line.specs.declared.Outcome.the-variants.{Answered, Refused}
 use Rattle.line.specs.Cells.{numberOf, xorBytes}
@@ -30,12 +33,12 @@ use Rattle.claims.specs.Plain.{Line, Plain, whole, hit, damage, answers,
 use Rattle.claims.specs.Premises.{Premise, PremiseBy, AtCalls}
 use Rattle.claims.specs.Claim.{bootedDevice, bootedPlain}
 use Rattle.claims.proofs.Related.{Related}
-use Rattle.claims.proofs.Visits.{visit-answered}
+use Rattle.claims.proofs.Visits.{line-beyond, visit-answered}
 use Rattle.claims.proofs.Refusals.{None, first-none}
 use Rattle.claims.proofs.Calls.{call-same}
 use Rattle.rank.specs.RefusalLaws.{boot-passed}
 use Rattle.claims.proofs.Claims.{FaithfulFrom, faithful-from, faithful-boot}
-use Rattle.claims.proofs.Damages.{OneChip, Narrow, one-premise, one-answers, narrow-premise, narrow-answers, zeros-xor}
+use Rattle.claims.proofs.Damages.{OneChip, Narrow, OneBeyond, one-premise, one-answers, narrow-premise, narrow-answers, beyond-premise, beyond-answers, zeros-xor}
 
 -- ---- a refusal keeps what was given
 
@@ -322,7 +325,26 @@ module _ (m cws : List ℕ) (cs : List Call) (e : bootRefusal m cws ≡ 0) (t : 
       let f = related .holds .formed l in-n in
       read-answered task l b named in-n size (narrow-premise x f o) (narrow-answers x f o)
 
-  -- an answered read never gives another line: its buffer holds the line written
+  -- one chip beyond mending: where no other chip of the line has more than one bad bit, the read answers the line written
+  pub one-beyond-answers : (task l k : ℕ) (b : List ℕ) → task < 8 → l < length m / 81 → length b ≡ 64 → OneBeyond (plainAfter m cs .lineAt l) k
+      → deviceCall (deviceAfter m cws cs) (read task l b) .out ≡ line (plainAfter m cs .lineAt l .bytes)
+  one-beyond-answers task l k b named in-n size o =
+      let x : Line = plainAfter m cs .lineAt l in
+      let f = related .holds .formed l in-n in
+      read-answered task l b named in-n size (beyond-premise x f k o) (beyond-answers x f k o)
+
+  -- under the premise, a visit that answered by document 01's step 5 reports, finds and leaves the same now, whatever the catch-words. So
+  -- each visit of a patrol is meant too: the visits before it change the record and other lines, and not this line.
+  pub answered-before : (l : ℕ) (words : List ℕ) → l < length m / 81 → Premise (plainAfter m cs .lineAt l)
+      → formerOutcome (lineAt (deviceAfter m cws cs .memory) l) words ≡ Answered → AsBefore (lineAt (deviceAfter m cws cs .memory) l) words
+  answered-before l words in-n g a =
+      let x : Line = plainAfter m cs .lineAt l in
+      let few : beyondChips (lineAt (deviceAfter m cws cs .memory) l) words ≤ 1 =
+      subst (λ (bytes : List ℕ). beyondChips bytes words ≤ 1) (sym (related .holds .each l in-n))
+      (line-beyond x (related .holds .formed l in-n) g words) in
+      former-answered (lineAt (deviceAfter m cws cs .memory) l) words few a
+
+  -- under the premise an answered read never gives another line: its buffer holds the line written
   pub answered-read-line : (task l : ℕ) (b : List ℕ)
       → PremiseBy (plainRefusal (plainAfter m cs .lines) (read task l b)) (plainAfter m cs) (read task l b)
       → readOf (deviceAfter m cws cs .rank) (deviceAfter m cws cs .memory) task l b .result .refusal ≡ 0

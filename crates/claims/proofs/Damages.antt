@@ -1,25 +1,27 @@
--- Lines for which the premise holds by itself: one damaged chip whose pattern is no codeword, or at most one bit in each chip. The plain
--- memory answers both.
+-- Lines for which the premise holds by itself: one damaged chip whose pattern is no codeword, at most one bit in each chip, or at most one
+-- bit in each chip but one that is beyond mending. The plain memory answers all of them.
 -- Assumes nothing.
-use mathlib.Core.Path.{_≡_, refl, sym, ap, _∙_}
+use mathlib.Core.Path.{_≡_, refl, sym, ap, ap₂, _∙_}
 use mathlib.Core.Logic.{_≢_}
-use mathlib.Core.Bool.{Bool, true, false, not, _||_, or-true}
+use mathlib.Core.Bool.{Bool, true, false, not, _&&_, _||_, or-true, true≢false}
 use mathlib.Core.List.{List, [], _∷_}
 use Prim.Native.Nat.{ℕ, zero, suc, _+_, _^_, _≤_, _<_, zero-le}
+use native.Mathlib.Nat.{le-antisymm}
 use native.Mathlib.Decide.{ℕ-discrete}
 use native.Mathlib.Omega.{arith}
 use lib.Count.{ones, onesIn}
 use lib.Dec.{eqb, leb, ltb}
 use lib.ListN.{length, replicate}
 use borrow.Author.Tests.{eq-eqb, le-leb, le-ltb}
-use Rattle.code.specs.Code.{isCodeword, mendedWord}
+use Rattle.code.specs.Code.{isCodeword, mendedWord, statusOf, isBeyond}
 use Rattle.code.specs.CodeLaws.{codeword-syndrome}
 use Rattle.code.specs.MendLaws.{mendedWord-narrow, narrow-codeword}
+use Rattle.code.specs.StatusLaws.{codeword-mends, beyond-wide}
 use Rattle.line.specs.Chips.{bit, count}
 use Rattle.line.specs.Cells.{xorBytes}
-use Rattle.line.specs.ChipLaws.{bit-lt, count-zero}
+use Rattle.line.specs.ChipLaws.{bit-lt, count-zero, count-some}
 use Rattle.line.specs.ByteLaws.{number-lt}
-use Rattle.claims.specs.Plain.{Line, damage, damagedChips, undone, answers}
+use Rattle.claims.specs.Plain.{Line, damage, damagedChips, undone, wide, wideBeyond, answers}
 use Rattle.claims.specs.Premises.{Premise}
 use Rattle.claims.proofs.Related.{Formed}
 
@@ -45,7 +47,7 @@ unfolding ones onesIn
 one-premise x k h =
     record {
       detected = λ j l c. by j l c (ℕ-discrete j k);
-      oneWide = count-only (λ j. ltb 1 (ones (damage x j))) 9 k (λ j l ne. ap (λ (e : ℕ). ltb 1 (ones e)) (h .others j l ne));
+      oneWide = count-only (wide x) 9 k (λ j l ne. ap (λ (e : ℕ). ltb 1 (ones e)) (h .others j l ne));
     }
   where
     by : (j : ℕ) → j < 9 → isCodeword (damage x j) ≡ true → Dec (j ≡ k) → damage x j ≡ 0
@@ -57,7 +59,7 @@ unfolding answers damagedChips
 one-answers x k h =
     let few : damagedChips x ≤ 1 =
     count-only (λ j. not (eqb (damage x j) 0)) 9 k (λ j l ne. ap not (eq-eqb (damage x j) 0 (h .others j l ne))) in
-    ap (λ (b : Bool). b || undone x) (le-leb (damagedChips x) 1 few)
+    ap (λ (b : Bool). b || (undone x || wideBeyond x)) (le-leb (damagedChips x) 1 few)
 
 -- no chip's damage has more than one bit
 abbrev pub Narrow : Line → Type 0
@@ -70,8 +72,8 @@ damage-fits x f k l = number-lt (x .pattern k) 9 (f .fits k l) (f .nine k l)
 
 pub narrow-premise : (x : Line) → Formed x → Narrow x → Premise x
 narrow-premise x f h =
-    let none : count (λ k. ltb 1 (ones (damage x k))) 9 ≡ 0 =
-    count-zero (λ k. ltb 1 (ones (damage x k))) 9 (λ k l. le-ltb 1 (ones (damage x k)) (h k l)) in
+    let none : count (wide x) 9 ≡ 0 =
+    count-zero (wide x) 9 (λ k l. le-ltb 1 (ones (damage x k)) (h k l)) in
     record {
       detected = λ k l c. narrow-codeword (damage x k) (damage-fits x f k l) (h k l) (codeword-syndrome (damage x k) c);
       oneWide = omega arith;
@@ -83,7 +85,42 @@ narrow-answers x f h =
     let none : count (λ k. not (eqb (mendedWord (damage x k)) 0)) 9 ≡ 0 =
     count-zero (λ k. not (eqb (mendedWord (damage x k)) 0)) 9
     (λ k l. ap not (eq-eqb (mendedWord (damage x k)) 0 (mendedWord-narrow (damage x k) (damage-fits x f k l) (h k l)))) in
-    ap (λ (n : ℕ). leb (damagedChips x) 1 || eqb n 0) none ∙ or-true (leb (damagedChips x) 1)
+    ap (λ (n : ℕ). leb (damagedChips x) 1 || (eqb n 0 || wideBeyond x)) none ∙ or-true (leb (damagedChips x) 1)
+
+-- chip k's damage is beyond mending, and no other chip's has more than one bit
+pub record OneBeyond (x : Line) (k : ℕ) : Type 0 where
+  pub chip : k < 9
+  pub beyond : isBeyond (statusOf (damage x k)) ≡ true
+  pub others : (j : ℕ) → j < 9 → j ≢ k → ones (damage x j) ≤ 1
+
+module _ (x : Line) (f : Formed x) (k : ℕ) (h : OneBeyond x k) where
+  beyond-others : (j : ℕ) → j < 9 → j ≢ k → wide x j ≡ false
+  beyond-others j l ne = le-ltb 1 (ones (damage x j)) (h .others j l ne)
+
+  pub beyond-premise : Premise x
+  beyond-premise = record { detected = λ j l c. by j l c (ℕ-discrete j k); oneWide = count-only (wide x) 9 k beyond-others }
+    where
+      by : (j : ℕ) → j < 9 → isCodeword (damage x j) ≡ true → Dec (j ≡ k) → damage x j ≡ 0
+      by j l c (yes e) = absurd (true≢false (sym (ap (λ (i : ℕ). isBeyond (statusOf (damage x i))) e ∙ h .beyond) ∙ codeword-mends (damage x j) c))
+      by j l c (no e) = narrow-codeword (damage x j) (damage-fits x f j l) (h .others j l e) (codeword-syndrome (damage x j) c)
+
+  chip-wide : wide x k ≡ true
+  chip-wide = beyond-wide (damage x k) (damage-fits x f k (h .chip)) (h .beyond)
+
+  -- a test that chip k alone passes counts one
+  just-one : (t : ℕ → Bool) → t k ≡ true → ((j : ℕ) → j < 9 → j ≢ k → t j ≡ false) → count t 9 ≡ 1
+  just-one t e others = le-antisymm (count-only t 9 k others) (count-some t 9 k (h .chip) e)
+
+  pub beyond-answers : answers x ≡ true
+  unfolding answers wideBeyond
+  beyond-answers =
+      let one : count (wide x) 9 ≡ 1 = just-one (wide x) chip-wide beyond-others in
+      let both : count (λ j. wide x j && isBeyond (statusOf (damage x j))) 9 ≡ 1 =
+      just-one (λ j. wide x j && isBeyond (statusOf (damage x j))) (ap₂ _&&_ chip-wide (h .beyond))
+      (λ j l ne. ap (λ (b : Bool). b && isBeyond (statusOf (damage x j))) (beyond-others j l ne)) in
+      ap₂ (λ (n i : ℕ). leb (damagedChips x) 1 || (undone x || (eqb n 1 && eqb i 1))) one both
+      ∙ ap (λ (b : Bool). leb (damagedChips x) 1 || b) (or-true (undone x))
+      ∙ or-true (leb (damagedChips x) 1)
 
 -- a pattern xored into zeros is that pattern
 pub zeros-xor : (q : List ℕ) (n : ℕ) → length q ≡ n → xorBytes (replicate n 0) q ≡ q

@@ -4,7 +4,6 @@ use mathlib.Core.Path.{_≡_, sym, ap, _∙_}
 use mathlib.Core.Bool.{Bool, true, false, not, _&&_}
 use mathlib.Core.List.{List, [], _∷_}
 use Prim.Native.Nat.{ℕ, zero, suc}
-use lib.Count.{ones}
 use lib.Dec.{eqb, leb, ltb, lit<}
 use borrow.Author.Tests.{eqb-true, leb-true, ltb-true, not-false}
 use Rattle.code.specs.Code.{isCodeword}
@@ -12,7 +11,7 @@ use Rattle.line.specs.Chips.{count}
 use Rattle.line.specs.ChipLaws.{count-none, and-first, and-second}
 use Rattle.line.specs.ByteLaws.{Bytes, bytes-cons}
 use Rattle.claims.specs.Lists.{Call, write, read, patrol, renew, fault, All, Typed}
-use Rattle.claims.specs.Plain.{Line, Plain, damage, plainVisit, plainRefusal, visits, plainCall}
+use Rattle.claims.specs.Plain.{Line, Plain, damage, wide, plainVisit, plainRefusal, visits, plainCall}
 use Rattle.claims.specs.Premises.{Premise, AtVisits, PremiseBy, AtCalls}
 
 -- a pattern other than zero that is a codeword
@@ -20,18 +19,18 @@ abbrev hidden : Line → ℕ → Bool
 hidden x k = isCodeword (damage x k) && not (eqb (damage x k) 0)
 
 abbrev pub premiseHolds : Line → Bool
-premiseHolds x = eqb (count (hidden x) 9) 0 && leb (count (λ k. ltb 1 (ones (damage x k))) 9) 1
+premiseHolds x = eqb (count (hidden x) 9) 0 && leb (count (wide x) 9) 1
 
 pub premise-holds : (x : Line) → premiseHolds x ≡ true → Premise x
 premise-holds x e =
-    let none : count (hidden x) 9 ≡ 0 = eqb-true (count (hidden x) 9) 0 (and-first (eqb (count (hidden x) 9) 0) wide e) in
+    let none : count (hidden x) 9 ≡ 0 = eqb-true (count (hidden x) 9) 0 (and-first (eqb (count (hidden x) 9) 0) few e) in
     record {
       detected = λ k l c. by k c (count-none (hidden x) 9 none k l);
-      oneWide = leb-true (count (λ k. ltb 1 (ones (damage x k))) 9) 1 (and-second (eqb (count (hidden x) 9) 0) wide e);
+      oneWide = leb-true (count (wide x) 9) 1 (and-second (eqb (count (hidden x) 9) 0) few e);
     }
   where
-    wide : Bool
-    wide = leb (count (λ k. ltb 1 (ones (damage x k))) 9) 1
+    few : Bool
+    few = leb (count (wide x) 9) 1
 
     by : (k : ℕ) → isCodeword (damage x k) ≡ true → hidden x k ≡ false → damage x k ≡ 0
     by k c h =

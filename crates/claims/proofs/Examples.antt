@@ -1,4 +1,4 @@
--- The claim is not empty: three lists that meet the premise, and the answers, by computation. Four lines, as the bench has.
+-- The claim is not empty: four lists that meet the premise, and the answers, by computation. Four lines, as the bench has.
 -- Assumes nothing.
 use mathlib.Core.Path.{_≡_, refl, _∙_}
 use mathlib.Core.Bool.{true}
@@ -6,14 +6,14 @@ use mathlib.Core.List.{List, [], _∷_}
 use Prim.Native.Nat.{ℕ}
 use lib.Count.{ones, onesIn}
 use lib.ListN.{replicate}
-use Rattle.code.specs.Code.{isCodeword, syndromeOf, remainder, remainderIn, timesX, syndromeAt, positionFrom, positionOf, bitAt, mended, mendedWord}
+use Rattle.code.specs.Code.{isCodeword, syndromeOf, remainder, remainderIn, timesX, syndromeAt, positionFrom, positionOf, bitAt, mended, mendedWord, statusAt, statusOf, isBeyond}
 use Rattle.line.specs.Chips.{count}
 use Rattle.line.specs.Cells.{numberOf}
 use Rattle.rank.specs.Runs.{outs}
 use Rattle.rank.specs.Refusals.{memoryOut, catchWordsOut, bootRefusal}
 use Rattle.claims.specs.Lists.{Call, write, read, patrol, renew, fault, Seen, refused, done, line, counts, deviceCall}
 use Rattle.claims.specs.Plain as P
-use Rattle.claims.specs.Plain.{whole, plainBoot, hit, damage, damagedChips, undone, answers, visitBy, plainVisit, plainAccepted, plainBy, plainCall}
+use Rattle.claims.specs.Plain.{whole, plainBoot, hit, damage, damagedChips, undone, wideBeyond, answers, visitBy, plainVisit, plainAccepted, plainBy, plainCall}
 use Rattle.claims.specs.Premises.{AtCalls}
 use Rattle.claims.specs.Claim.{bootedDevice, bootedPlain}
 use Rattle.claims.proofs.Decided.{callsHold, calls-hold, allTyped, all-typed}
@@ -37,6 +37,14 @@ wide = 0 ∷ 0 ∷ 0 ∷ 0 ∷ 0 ∷ 0 ∷ 0 ∷ 0 ∷ 7 ∷ []
 -- word 1 with check 00h: one bit
 abbrev pub narrow : List ℕ
 narrow = 0 ∷ 0 ∷ 0 ∷ 0 ∷ 0 ∷ 0 ∷ 0 ∷ 1 ∷ 0 ∷ []
+
+-- word 3 with check 00h: two bits, beyond mending
+abbrev pub beyondWord : List ℕ
+beyondWord = 0 ∷ 0 ∷ 0 ∷ 0 ∷ 0 ∷ 0 ∷ 0 ∷ 3 ∷ 0 ∷ []
+
+-- word 0 with check 03h: two bits, beyond mending, and M is 0
+abbrev pub beyondCheck : List ℕ
+beyondCheck = 0 ∷ 0 ∷ 0 ∷ 0 ∷ 0 ∷ 0 ∷ 0 ∷ 0 ∷ 3 ∷ []
 
 -- each catch-word 1111111111111111h
 abbrev pub catchWords : List ℕ
@@ -73,8 +81,9 @@ abbrev pub benchSeen : List Seen
 benchSeen = done ∷ line elevens ∷ line elevens ∷ done ∷ line elevens ∷ done ∷ done ∷ refused 21 ∷ []
 
 pub bench-shown : Shown benchCalls benchSeen
-unfolding bootedPlain plainBoot plainCall plainBy plainAccepted plainVisit visitBy P.withLine whole hit answers damagedChips undone damage
-    count numberOf mendedWord mended bitAt positionOf positionFrom syndromeAt isCodeword syndromeOf remainder remainderIn timesX ones onesIn
+unfolding bootedPlain plainBoot plainCall plainBy plainAccepted plainVisit visitBy P.withLine whole hit answers damagedChips undone wideBeyond damage
+    count numberOf mendedWord mended bitAt statusOf statusAt isBeyond positionOf positionFrom syndromeAt isCodeword syndromeOf remainder
+    remainderIn timesX ones onesIn
 bench-shown = record { typed = refl; premise = refl; plain = refl }
 
 pub bench-device : outs deviceCall (bootedDevice memory catchWords) benchCalls ≡ benchSeen
@@ -94,8 +103,9 @@ refusedSeen =
     ∷ refused 4 ∷ refused 1 ∷ refused 3 ∷ line elevens ∷ []
 
 pub refused-shown : Shown refusedCalls refusedSeen
-unfolding bootedPlain plainBoot plainCall plainBy plainAccepted plainVisit visitBy P.withLine whole hit answers damagedChips undone damage
-    count numberOf mendedWord mended bitAt positionOf positionFrom syndromeAt isCodeword syndromeOf remainder remainderIn timesX ones onesIn
+unfolding bootedPlain plainBoot plainCall plainBy plainAccepted plainVisit visitBy P.withLine whole hit answers damagedChips undone wideBeyond damage
+    count numberOf mendedWord mended bitAt statusOf statusAt isBeyond positionOf positionFrom syndromeAt isCodeword syndromeOf remainder
+    remainderIn timesX ones onesIn
 refused-shown = record { typed = refl; premise = refl; plain = refl }
 
 pub refused-device : outs deviceCall (bootedDevice memory catchWords) refusedCalls ≡ refusedSeen
@@ -116,9 +126,28 @@ patrolSeen =
     ∷ line elevens ∷ refused 21 ∷ []
 
 pub patrol-shown : Shown patrolCalls patrolSeen
-unfolding bootedPlain plainBoot plainCall plainBy plainAccepted plainVisit visitBy P.withLine whole hit answers damagedChips undone damage
-    count numberOf mendedWord mended bitAt positionOf positionFrom syndromeAt isCodeword syndromeOf remainder remainderIn timesX ones onesIn
+unfolding bootedPlain plainBoot plainCall plainBy plainAccepted plainVisit visitBy P.withLine whole hit answers damagedChips undone wideBeyond damage
+    count numberOf mendedWord mended bitAt statusOf statusAt isBeyond positionOf positionFrom syndromeAt isCodeword syndromeOf remainder
+    remainderIn timesX ones onesIn
 patrol-shown = record { typed = refl; premise = refl; plain = refl }
 
 pub patrol-device : outs deviceCall (bootedDevice memory catchWords) patrolCalls ≡ patrolSeen
 patrol-device = device-shown patrolCalls patrolSeen patrol-shown
+
+-- ---- document 02, Req 02: one damage beyond mending beside a one-bit damage is answered, by a patrol and by a read
+
+abbrev pub beyondCalls : List Call
+beyondCalls =
+    write 0 elevens ∷ fault 0 8 beyondCheck ∷ fault 0 2 narrow ∷ patrol 0 0 1 ∷ fault 0 0 beyondWord ∷ fault 0 1 narrow ∷ read 0 0 buffer ∷ []
+
+abbrev pub beyondSeen : List Seen
+beyondSeen = done ∷ done ∷ done ∷ counts 1 0 ∷ done ∷ done ∷ line elevens ∷ []
+
+pub beyond-shown : Shown beyondCalls beyondSeen
+unfolding bootedPlain plainBoot plainCall plainBy plainAccepted plainVisit visitBy P.withLine whole hit answers damagedChips undone wideBeyond damage
+    count numberOf mendedWord mended bitAt statusOf statusAt isBeyond positionOf positionFrom syndromeAt isCodeword syndromeOf remainder
+    remainderIn timesX ones onesIn
+beyond-shown = record { typed = refl; premise = refl; plain = refl }
+
+pub beyond-device : outs deviceCall (bootedDevice memory catchWords) beyondCalls ≡ beyondSeen
+beyond-device = device-shown beyondCalls beyondSeen beyond-shown

@@ -13,3 +13,4 @@ pub mod Rewritten
 pub mod Decided
 pub mod Examples
 pub mod TaskExamples
+pub mod StatusExamples

@@ -12,7 +12,7 @@ use Rattle.code.specs.CodeLaws.{check-makes, syndrome-codeword}
 use Rattle.line.specs.Chips.{count, mask}
 use Rattle.line.specs.Cells.{numberOf, bytesOf, chipAt, cellAt, codeword}
 use Rattle.line.specs.Scan.{unsound}
-use Rattle.line.specs.Visit.{isFlagged, outcomeOf, wordOf, writtenBack, bytesBy, bytesAfter, reportOf}
+use Rattle.line.specs.Visit.{isFlagged, outcomeOf, wordOf, withWords, writtenBack, bytesBy, bytesAfter, reportOf}
 use Rattle.line.specs.ByteLaws.{Bytes, number-lt, length-bytesOf, bytes-bytesOf}
 use Rattle.line.specs.ChipLaws.{count-ext, count-zero, ones-mask}
 use Rattle.line.specs.CellLaws.{chip-joined, length-chip, length-codeword, cell-number, word-chip, eight-codeword, number-codeword}
@@ -39,7 +39,7 @@ module _ (x cws : List ℕ) (size : length x ≡ 81) (bytes : Bytes x) where
         by false = length-chip x k size l
 
     chip-after : (k : ℕ) → k < 9 → chipAt (bytesAfter x cws) k ≡ after k
-    unfolding bytesAfter bytesBy writtenBack
+    unfolding bytesAfter bytesBy writtenBack withWords
     chip-after k l = ap (λ (o : Outcome). chipAt (bytesBy o x cws) k) a ∙ chip-joined after nine k l
 
     -- a flagged chip's word is one of eight bytes

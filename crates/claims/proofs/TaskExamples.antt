@@ -8,10 +8,10 @@ use Prim.Native.Nat.{ℕ, _<_}
 use native.Mathlib.Omega.{arith}
 use lib.Count.{ones, onesIn}
 use lib.ListN.{getD, replicate}
-use Rattle.code.specs.Code.{isCodeword, syndromeOf, remainder, remainderIn, timesX, syndromeAt, positionFrom, positionOf, bitAt, mended, mendedWord, checkOf}
+use Rattle.code.specs.Code.{isCodeword, syndromeOf, remainder, remainderIn, timesX, syndromeAt, positionFrom, positionOf, bitAt, mended, mendedWord, checkOf, statusAt, statusOf, isBeyond}
 use Rattle.line.specs.Chips.{count, ofChips, joined, xorAll, mask, inMask}
 use Rattle.line.specs.Cells.{numberOf, bytesOf, bytesFrom, chipAt, wordAt, checkAt, cellAt, codeword, withChip}
-use Rattle.line.specs.Visit.{sends, sentAt, catchWord, passOne, isCandidate, complement, passTwo, follows, isFlagged, isCollision, flaggedChips, mustCancel, xorOthers, passThree, outcomeBy, wordBy, outcomeOf, wordOf, writtenBack, bytesBy, bytesAfter, reportOf, refusalOf}
+use Rattle.line.specs.Visit.{sends, sentAt, catchWord, passOne, isCandidate, complement, passTwo, follows, isFlagged, isCollision, flaggedChips, mustCancel, xorOthers, passThree, toldAt, isFlaggedBeyond, beyondChips, thirdOutcome, thirdWord, outcomeBy, wordBy, outcomeOf, wordOf, withWords, writtenBack, bytesBy, bytesAfter, reportOf, refusalOf}
 use Rattle.rank.specs.Runs.{end, sumOf}
 use Rattle.rank.specs.Lines.{lineAt, withLine}
 use Rattle.rank.specs.Record.{totalLimit, booted, moved, grown, counted, settledBy, settled}
@@ -57,8 +57,8 @@ pub totals-shown : (after memory catchWords taskCalls .rank .repairs ≡ 0 ∷ 1
 unfolding after bootedDevice bootOf bootBy bootRefusal memoryOut catchWordsOut booted deviceCall readOf readBy readResult readRefusal
     patrolOf patrolBy patrolLines patrolled patrolRefusal faultOf faultBy faulted faultRefusal lineOut bufferOut chipOut patternOut
     notReady memoryDiffers registerDiffers taskOut visitOf settled settledBy moved grown counted lineAt withLine sends sentAt catchWord
-    passOne isCandidate complement passTwo follows isFlagged isCollision flaggedChips mustCancel xorOthers passThree outcomeBy wordBy
-    outcomeOf wordOf writtenBack bytesBy bytesAfter reportOf refusalOf count ofChips joined xorAll mask inMask numberOf bytesOf
+    passOne isCandidate complement passTwo follows isFlagged isCollision flaggedChips mustCancel xorOthers passThree toldAt isFlaggedBeyond
+    beyondChips thirdOutcome thirdWord statusOf statusAt isBeyond outcomeBy wordBy outcomeOf wordOf withWords writtenBack bytesBy bytesAfter reportOf refusalOf count ofChips joined xorAll mask inMask numberOf bytesOf
     bytesFrom chipAt wordAt checkAt cellAt codeword withChip isCodeword syndromeOf remainder remainderIn timesX syndromeAt positionFrom
     positionOf bitAt mended mendedWord checkOf ones onesIn
 totals-shown = (refl, refl)

@@ -2,6 +2,7 @@
 -- refuse with 21, and the two stay related. This serves read and patrol; patrol makes a list of such visits.
 -- Assumes nothing.
 use mathlib.Core.Path.{_≡_, refl, sym, ap, _∙_, subst}
+use mathlib.Core.Logic.{⊎-elim}
 use mathlib.Core.Bool.{Bool, true, false, cond}
 use mathlib.Core.List.{List, [], _∷_, map}
 use Prim.Native.Nat.{ℕ, zero, suc, _+_, _*_, _<_, _≤_}
@@ -10,13 +11,13 @@ use lib.Dec.{eqb}
 use lib.Seq.{take-all}
 use borrow.Author.Tests.{eqb-true}
 use Rattle.line.specs.Cells.{numberOf, bytesOf, bytesFrom, eightAt, lineWord, stored}
-use Rattle.line.specs.Damage.{Parity, Premise as PatternPremise, damages, undone as patternsUndone, answers as patternsAnswer}
-use Rattle.line.specs.Visit.{passOne, passThree, flaggedChips, mustCancel, outcomeBy, outcomeOf, wordOf, bytesAfter, reportOf, refusalOf}
-use Rattle.line.specs.Chips.{xorAll}
+use Rattle.line.specs.Damage.{Parity, Premise as PatternPremise, damages, undone as patternsUndone, wideBeyond as patternsBeyond, answers as patternsAnswer}
+use Rattle.line.specs.Visit.{beyondChips, outcomeOf, wordOf, bytesAfter, reportOf, refusalOf}
+use Rattle.line.specs.VisitLaws.{outcome-ends}
 use Rattle.line.specs.ChipLaws.{joined-ext}
 use Rattle.line.specs.ByteLaws.{bytes-bytesFrom, bytesOf-number}
 use Rattle.line.specs.CellLaws.{joined-blocks, length-eight, lineWord-eight}
-use Rattle.line.specs.DamageLaws.{line-parity, visit-outcome, visit-bytes, visit-word}
+use Rattle.line.specs.DamageLaws.{line-parity, visit-outcome, visit-bytes, visit-word, visit-beyond}
 use Rattle.line.specs.declared.Report.{Report}
 use Rattle.line.specs.declared.Outcome.{Outcome}
 use Rattle.line.specs.declared.Outcome.the-variants.{Answered, Refused}
@@ -27,7 +28,7 @@ use Rattle.rank.specs.Record.{moved, settled, settledBy}
 use Rattle.rank.specs.Calls.{Device, visitOf, foundLine, isRefused}
 use Rattle.claims.specs.Lists.{All}
 use Rattle.claims.specs.Plain as P
-use Rattle.claims.specs.Plain.{Line, Plain, whole, damage, damagedChips, undone, answers, visitBy, plainVisit}
+use Rattle.claims.specs.Plain.{Line, Plain, whole, damage, damagedChips, undone, wideBeyond, answers, visitBy, plainVisit}
 use Rattle.claims.specs.Premises.{Premise, AtVisits}
 use Rattle.claims.specs.Claim.{laid}
 use Rattle.claims.proofs.Lockstep.{Agree, Whole, lockstep}
@@ -44,7 +45,7 @@ module _ (x : Line) (f : Formed x) (h : Premise x) (cws : List ℕ) where
   premise = record { detected = h .detected; oneWide = h .oneWide }
 
   answers-same : patternsAnswer (λ k. numberOf (x .pattern k)) ≡ answers x
-  unfolding patternsAnswer answers damages damagedChips patternsUndone undone damage
+  unfolding patternsAnswer answers damages damagedChips patternsUndone undone patternsBeyond wideBeyond damage
   answers-same = refl
 
   line-outcome : outcomeOf (laid x) cws ≡ cond (answers x) Answered (Refused 21)
@@ -52,6 +53,11 @@ module _ (x : Line) (f : Formed x) (h : Premise x) (cws : List ℕ) where
   line-outcome =
       visit-outcome (lineWord (x .bytes)) (x .pattern) parity (f .nine) (f .fits) premise cws
       ∙ ap (λ (b : Bool). cond b Answered (Refused 21)) answers-same
+
+  -- no more than one of its flagged chips is beyond mending
+  pub line-beyond : beyondChips (laid x) cws ≤ 1
+  unfolding laid
+  line-beyond = visit-beyond (lineWord (x .bytes)) (x .pattern) parity (f .nine) (f .fits) premise cws
 
   line-bytes : bytesAfter (laid x) cws ≡ cond (answers x) (stored (lineWord (x .bytes))) (laid x)
   unfolding laid
@@ -78,18 +84,11 @@ module _ (x : Line) (f : Formed x) (h : Premise x) (cws : List ℕ) where
 
 -- a visit that has no number is answered: its only refusals are 20 and 21
 pub visit-answered : (m cws : List ℕ) → refusalOf (outcomeOf m cws) ≡ 0 → outcomeOf m cws ≡ Answered
-unfolding outcomeOf outcomeBy mustCancel refusalOf
-visit-answered m cws = by (flaggedChips m cws)
+unfolding refusalOf
+visit-answered m cws z = ⊎-elim (λ e. e) (⊎-elim (refuses 19) (refuses 20)) (outcome-ends m cws)
   where
-    cancels : (b : Bool) (number : ℕ) → refusalOf (cond b Answered (Refused (suc number))) ≡ 0
-        → cond b Answered (Refused (suc number)) ≡ Answered
-    cancels true number e = refl
-    cancels false number e = absurd (omega arith)
-
-    by : (n : ℕ) → refusalOf (outcomeBy n m cws) ≡ 0 → outcomeBy n m cws ≡ Answered
-    by zero = cancels (eqb (xorAll (passOne m cws) 9) 0) 19
-    by (suc zero) = λ e. refl
-    by (suc (suc n)) = cancels (eqb (xorAll (passThree m cws) 9) 0) 20
+    refuses : (n : ℕ) → outcomeOf m cws ≡ Refused (suc n) → outcomeOf m cws ≡ Answered
+    refuses n e = let none : suc n ≡ 0 = sym (ap refusalOf e) ∙ z in absurd (omega arith)
 
 -- ---- the record after a visit
 

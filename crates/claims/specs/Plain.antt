@@ -1,14 +1,16 @@
 -- Document 01, "Plain memory". It gets N and the arguments of the calls except catch-words, and nothing of the record or the chips. With
--- the device it shares the code inside a chip (here M) and general functions on lists; refusals and visits are its own. Document 02,
--- Req 01: it refuses a task not below 8 itself, and nothing else of it sees the task.
+-- the device it shares the code inside a chip (here M and the status) and general functions on lists; refusals and visits are its own.
+-- Document 02, Req 01: it refuses a task not below 8 itself, and nothing else of it sees the task. Req 02: it answers also when its one wide
+-- pattern is beyond mending.
 -- p stands for the plain memory, l for a line's and k for a chip's number.
 -- Definitions alone.
 use Prim.Native.Nat.{ℕ, zero, suc, _-_, min}
-use mathlib.Core.Bool.{Bool, true, false, not, _||_, cond}
+use mathlib.Core.Bool.{Bool, true, false, not, _&&_, _||_, cond}
 use mathlib.Core.List.{List, [], _∷_}
+use lib.Count.{ones}
 use lib.Dec.{eqb, ltb, leb}
 use lib.ListN.{length, replicate}
-use Rattle.code.specs.Code.{mendedWord}
+use Rattle.code.specs.Code.{mendedWord, statusOf, isBeyond}
 use Rattle.line.specs.Chips.{count}
 use Rattle.line.specs.Cells.{numberOf, xorBytes}
 use Rattle.rank.specs.Runs.{Did, outs, end, upFrom, sumOf}
@@ -54,9 +56,18 @@ damagedChips x = count (λ k. not (eqb (damage x k) 0)) 9
 unfoldable pub undone : Line → Bool
 undone x = eqb (count (λ k. not (eqb (mendedWord (damage x k)) 0)) 9) 0
 
--- with 0 or 1 it answers; with more it answers if M of every pattern is the zero word, else 21
+-- a wide pattern, document 02's term, has more than one bit set
+abbrev pub wide : Line → ℕ → Bool
+wide x k = ltb 1 (ones (damage x k))
+
+-- its one wide pattern is beyond mending: just one pattern is wide, and that one is
+unfoldable pub wideBeyond : Line → Bool
+wideBeyond x = eqb (count (wide x) 9) 1 && eqb (count (λ k. wide x k && isBeyond (statusOf (damage x k))) 9) 1
+
+-- with 0 or 1 it answers; with more it answers if M of every pattern is the zero word, and also when its one wide pattern is beyond
+-- mending, else 21
 unfoldable pub answers : Line → Bool
-answers x = leb (damagedChips x) 1 || undone x
+answers x = leb (damagedChips x) 1 || (undone x || wideBeyond x)
 
 -- an answer clears the line's patterns; a refused visit changes nothing
 unfoldable pub visitBy : Bool → Plain → ℕ → Did Plain Seen

@@ -5,18 +5,16 @@ use mathlib.Core.Path.{_≡_}
 use Prim.Native.Nat.{ℕ, zero, suc, _<_, _≤_}
 use mathlib.Core.Bool.{true}
 use mathlib.Core.List.{List, [], _∷_}
-use lib.Count.{ones}
-use lib.Dec.{ltb}
 use Rattle.code.specs.Code.{isCodeword}
 use Rattle.line.specs.Chips.{count}
 use Rattle.rank.specs.Runs.{Did}
 use Rattle.claims.specs.Lists.{Call}
-use Rattle.claims.specs.Plain.{Line, Plain, damage, plainVisit, plainRefusal, visits, plainCall}
+use Rattle.claims.specs.Plain.{Line, Plain, damage, wide, plainVisit, plainRefusal, visits, plainCall}
 
 -- no pattern other than zero is a codeword, and at most one has more than one bit set
 pub record Premise (x : Line) : Type 0 where
   pub detected : (k : ℕ) → k < 9 → isCodeword (damage x k) ≡ true → damage x k ≡ 0
-  pub oneWide : count (λ k. ltb 1 (ones (damage x k))) 9 ≤ 1
+  pub oneWide : count (wide x) 9 ≤ 1
 
 -- a statement about a command and the state that meets it holds at each command of a list
 abbrev pub Along : {S C A : Type 0} → (S → C → Did S A) → (S → C → Type 0) → S → List C → Type 0

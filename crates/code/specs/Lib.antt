@@ -10,5 +10,6 @@ pub mod AdditiveLaws
 pub mod RemainderLaws
 pub mod CodeLaws
 pub mod MendLaws
+pub mod StatusLaws
 pub mod FoldLaws
 pub mod LaneLaws

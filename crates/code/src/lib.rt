@@ -1,12 +1,27 @@
-// The code inside a chip: CRC-8 with the polynomial x^8 + x^2 + x + 1 (document 01, "The code inside a chip").
+// The code inside a chip: CRC-8 with the polynomial x^8 + x^2 + x + 1 (document 01, "The code inside a chip"), and what a chip tells of a
+// word that it sends with Enable clear (document 02, Req 02).
 ghost use mathlib.Core.Path.{_≡_};
 ghost use Prim.Native.Nat.{_*_, _/_};
-ghost use Rattle.code.specs.Code.{cell, syndromeOf, isCodeword, checkOf, positionOf, bitAt, mendedWord};
+ghost use Rattle.code.specs.Code.{cell, syndromeOf, isCodeword, checkOf, positionOf, bitAt, mendedWord, statusAt, statusOf, isBeyond};
 ghost use Rattle.code.specs.Fold.{Folded};
 
 pub mod lanes;
 pub mod marked;
 mod positions;
+
+// What a chip tells of a word sent with Enable clear, in document 02's words. Sound: it holds a codeword. Mended: one bit was inverted.
+// Beyond mending: it holds no codeword, and nothing was inverted.
+pub enum Status {
+    Sound,
+    Mended,
+    Beyond,
+}
+
+// Nine bytes after mending: the word, and what is told of it.
+pub struct Mending {
+    pub word: u64,
+    pub status: Status,
+}
 
 // The check byte of a word.
 pub fn check_byte(word: u64) -> u8
@@ -37,15 +52,45 @@ pub fn position(syndrome: u8) -> u8
     positions[syndrome as usize]
 }
 
-// The word after mending: document 01's M.
-pub fn mend(word: u64, check: u8) -> u64
-    ensures { λ r. ⌜ r ≡ mendedWord (cell word check) ⌝ }
+// The word after mending, document 01's M, and its status. A codeword is sound, though its syndrome has position 255.
+pub fn mend(word: u64, check: u8) -> Mending
+    ensures word { λ r. ⌜ r .word ≡ mendedWord (cell word check) ⌝ }
+    ensures status { λ r. ⌜ r .status ≡ statusOf (cell word check) ⌝ }
 {
     let s = syndrome(word, check);
     if s == 0 {
-        return word;
+        return Mending {
+            word,
+            status: Status::Sound,
+        };
     }
-    word ^ word_bit(position(s))
+    let place = position(s);
+    let status = status_at(place);
+    Mending {
+        word: word ^ word_bit(place),
+        status,
+    }
+}
+
+// Whether a status is beyond mending.
+pub fn is_beyond(status: Status) -> bool
+    ensures { λ r. ⌜ r ≡ isBeyond status ⌝ }
+{
+    match status {
+        Status::Sound => false,
+        Status::Mended => false,
+        Status::Beyond => true,
+    }
+}
+
+// The status of nine bytes that are no codeword, by the position of their syndrome: 0 to 71 against 255.
+fn status_at(position: u8) -> Status
+    ensures { λ r. ⌜ r ≡ statusAt position ⌝ }
+{
+    match position {
+        0..=71 => Status::Mended,
+        _ => Status::Beyond,
+    }
 }
 
 // The bit of the word at a position: none at the check byte's positions, and none for 255.

@@ -4,19 +4,19 @@ use mathlib.Core.Bool.{Bool, true, false, not, _&&_, cond}
 use mathlib.Core.List.{List}
 use Prim.Native.Nat.{ℕ, zero, suc, _+_, _<_, _≤_}
 use native.Mathlib.Omega.{arith}
-use lib.Bits.{bitAnd, bitXor, xor-comm}
+use lib.Bits.{bitAnd, bitXor, xor-comm, xor-zero-r}
 use lib.Count.{ones}
 use lib.Dec.{eqb, ltb}
 use lib.ListN.{length, getD}
 use borrow.Author.Tests.{eqb-true, eqb-false, lt-ltb}
-use Rattle.code.specs.Code.{mendedWord}
-use Rattle.code.specs.XorLaws.{xor-cancel-r}
+use Rattle.code.specs.Code.{mendedWord, isBeyond}
+use Rattle.code.specs.XorLaws.{xor-cancel, xor-cancel-r}
 use Rattle.line.specs.Chips.{ofChips, joined, xorAll, bit, count, mask, inMask}
 use Rattle.line.specs.ChipLaws.{and-first, getD-ofChips, joined-ext, xorAll-ext, xorAll-but, count-none, count-le, ones-mask, and-masks, rest-mask, mask-ext, mask-zero, mask-count, count-mask}
 use Rattle.line.specs.Cells.{cellAt, chipAt, codeword}
 use Rattle.line.specs.CellLaws.{chips-line}
-use Rattle.line.specs.Visit.{catchWord, passOne, passThree, isCandidate, follows, isFlagged, isCollision, flaggedChips, mustCancel, xorOthers, outcomeBy, outcomeOf, wordBy, wordOf, writtenBack, bytesBy, bytesAfter, passesOf, reportOf}
-use Rattle.line.specs.VisitLaws.{flagged-mask, third-word}
+use Rattle.line.specs.Visit.{catchWord, passOne, passThree, toldAt, isFlaggedBeyond, beyondChips, thirdOutcome, thirdWord, isCandidate, follows, isFlagged, isCollision, flaggedChips, mustCancel, xorOthers, outcomeBy, outcomeOf, wordBy, wordOf, withWords, writtenBack, bytesBy, bytesAfter, passesOf, reportOf}
+use Rattle.line.specs.VisitLaws.{flagged-mask, third-sent}
 use Rattle.line.specs.Scan.{unsound}
 use Rattle.line.proofs.Loops.{member-is}
 use Rattle.line.specs.declared.Report.{Report}
@@ -81,7 +81,7 @@ module _ (m cws : List ℕ) where
 
 -- the line with words laid in its flagged chips
 abbrev pub laid : List ℕ → List ℕ → List ℕ → List ℕ
-laid m cws ws = joined (λ k. cond (isFlagged m cws k) (codeword (getD ws k 0)) (chipAt m k)) 9
+laid m cws ws = withWords (λ k. getD ws k 0) m cws
 
 -- an outcome, a number of passes and the flagged chips' words are those of steps 3 to 5
 abbrev pub Found : List ℕ → List ℕ → Outcome → ℕ → List ℕ → Type 0
@@ -89,7 +89,7 @@ Found m cws o n ws = (o ≡ outcomeOf m cws) × ((n ≡ passesOf m cws) × (laid
 
 -- words that are the flagged chips' make the line written back
 laid-words : (m cws ws : List ℕ) → ((k : ℕ) → k < 9 → isFlagged m cws k ≡ true → getD ws k 0 ≡ wordOf m cws k) → laid m cws ws ≡ writtenBack m cws
-unfolding writtenBack
+unfolding writtenBack withWords
 laid-words m cws ws h = joined-ext _ _ 9 (λ k l. pick k l (isFlagged m cws k) refl)
   where
     pick : (k : ℕ) → k < 9 → (b : Bool) → isFlagged m cws k ≡ b
@@ -97,94 +97,150 @@ laid-words m cws ws h = joined-ext _ _ 9 (λ k l. pick k l (isFlagged m cws k) r
     pick k l true t = ap codeword (h k l t)
     pick k l false t = refl
 
-module _ (m cws : List ℕ) (f p : ℕ) (ef : f ≡ mask (isFlagged m cws) 9) (ep : p ≡ xorAll (passOne m cws) 9) where
+-- a number other than 0 and 1 is two or more
+from-two : (P : ℕ → Type 0) (n : ℕ) → (n ≡ 0 → ⊥) → (n ≡ 1 → ⊥) → ((i : ℕ) → P (suc (suc i))) → P n
+from-two P zero n0 n1 h = absurd (n0 refl)
+from-two P (suc zero) n0 n1 h = absurd (n1 refl)
+from-two P (suc (suc n)) n0 n1 h = h n
+
+pub at-least-two : {n : ℕ} → (n ≡ 0 → ⊥) → (n ≡ 1 → ⊥) → 1 < n
+at-least-two {n} n0 n1 = from-two (λ i. 1 < i) n n0 n1 (λ i. omega arith)
+
+module _ (m cws : List ℕ) (f : ℕ) (ef : f ≡ mask (isFlagged m cws) 9) where
   chips : ones f ≡ flaggedChips m cws
   unfolding flaggedChips
   chips = ap ones ef ∙ ones-mask (isFlagged m cws) 9
 
-  -- none flagged
-  module _ (e : ones f ≡ 0) where
-    zero-chips : flaggedChips m cws ≡ 0
-    zero-chips = sym chips ∙ e
+  module _ (p : ℕ) (ep : p ≡ xorAll (passOne m cws) 9) where
+    -- none flagged
+    module _ (e : ones f ≡ 0) where
+      zero-chips : flaggedChips m cws ≡ 0
+      zero-chips = sym chips ∙ e
 
-    pub none-outcome : {o : Outcome} → o ≡ cond (eqb p 0) Answered (Refused 20) → o ≡ outcomeOf m cws
-    unfolding outcomeOf outcomeBy mustCancel
-    none-outcome q = rw (zero-chips, ← ep) q
+      pub none-outcome : {o : Outcome} → o ≡ cond (eqb p 0) Answered (Refused 20) → o ≡ outcomeOf m cws
+      unfolding outcomeOf outcomeBy mustCancel
+      none-outcome q = rw (zero-chips, ← ep) q
 
-    none-words : (ws : List ℕ) → laid m cws ws ≡ writtenBack m cws
-    unfolding flaggedChips
-    none-words ws = laid-words m cws ws (λ k l t. absurd (omega (arith, ap bit (sym t ∙ count-none (isFlagged m cws) 9 zero-chips k l))))
+      none-words : (ws : List ℕ) → laid m cws ws ≡ writtenBack m cws
+      unfolding flaggedChips
+      none-words ws = laid-words m cws ws (λ k l t. absurd (omega (arith, ap bit (sym t ∙ count-none (isFlagged m cws) 9 zero-chips k l))))
 
-    pub none-found : {c n : ℕ} {o : Outcome} → c ≡ mask (isCandidate m cws) 9
-        → o ≡ cond (eqb p 0) Answered (Refused 20) → n ≡ cond (eqb c 0) 1 2 → (ws : List ℕ) → Found m cws o n ws
-    none-found ec eo en ws = (none-outcome eo, (few-passes m cws zero-chips ec en, none-words ws))
+      pub none-found : {c n : ℕ} {o : Outcome} → c ≡ mask (isCandidate m cws) 9
+          → o ≡ cond (eqb p 0) Answered (Refused 20) → n ≡ cond (eqb c 0) 1 2 → (ws : List ℕ) → Found m cws o n ws
+      none-found ec eo en ws = (none-outcome eo, (few-passes m cws zero-chips ec en, none-words ws))
 
-  -- one flagged
-  module _ (e : ones f ≡ 1) where
-    one-chip : flaggedChips m cws ≡ 1
-    one-chip = sym chips ∙ e
+    -- one flagged
+    module _ (e : ones f ≡ 1) where
+      one-chip : flaggedChips m cws ≡ 1
+      one-chip = sym chips ∙ e
 
-    one-outcome : Answered ≡ outcomeOf m cws
-    unfolding outcomeOf outcomeBy
-    one-outcome = rw one-chip
+      one-outcome : Answered ≡ outcomeOf m cws
+      unfolding outcomeOf outcomeBy
+      one-outcome = rw one-chip
 
-    -- a flagged chip's catch-word, taken off the xor of all nine, leaves that of the other eight
-    taken-off : (k : ℕ) → k < 9 → isFlagged m cws k ≡ true → bitXor p (catchWord cws k) ≡ xorOthers (passOne m cws) k
-    unfolding isFlagged isCandidate xorOthers
-    taken-off k l t =
-        let sent : passOne m cws k ≡ catchWord cws k = eqb-true _ _ (and-first _ _ t) in
-        ap₂ bitXor (ep ∙ xorAll-but (passOne m cws) 9 k l) (sym sent) ∙ xor-cancel-r _ (passOne m cws k)
+      -- a flagged chip's catch-word, taken off the xor of all nine, leaves that of the other eight
+      taken-off : (k : ℕ) → k < 9 → isFlagged m cws k ≡ true → bitXor p (catchWord cws k) ≡ xorOthers (passOne m cws) k
+      unfolding isFlagged isCandidate xorOthers
+      taken-off k l t =
+          let sent : passOne m cws k ≡ catchWord cws k = eqb-true _ _ (and-first _ _ t) in
+          ap₂ bitXor (ep ∙ xorAll-but (passOne m cws) 9 k l) (sym sent) ∙ xor-cancel-r _ (passOne m cws k)
 
-    one-words : {ws : List ℕ} → ws ≡ ofChips (λ k. bitXor p (catchWord cws k)) 9 → laid m cws ws ≡ writtenBack m cws
-    unfolding wordOf wordBy
-    one-words {ws} q =
-        laid-words m cws ws
-        (λ k l t.
-        ap (λ (s : List ℕ). getD s k 0) q
-        ∙ getD-ofChips (λ j. bitXor p (catchWord cws j)) 9 k l
-        ∙ taken-off k l t
-        ∙ sym (ap (λ (n : ℕ). wordBy n m cws k) one-chip ∙ ap (λ (b : Bool). cond b (xorOthers (passOne m cws) k) (passOne m cws k)) t))
+      one-words : {ws : List ℕ} → ws ≡ ofChips (λ k. bitXor p (catchWord cws k)) 9 → laid m cws ws ≡ writtenBack m cws
+      unfolding wordOf wordBy
+      one-words {ws} q =
+          laid-words m cws ws
+          (λ k l t.
+          ap (λ (s : List ℕ). getD s k 0) q
+          ∙ getD-ofChips (λ j. bitXor p (catchWord cws j)) 9 k l
+          ∙ taken-off k l t
+          ∙ sym (ap (λ (n : ℕ). wordBy n m cws k) one-chip ∙ ap (λ (b : Bool). cond b (xorOthers (passOne m cws) k) (passOne m cws k)) t))
 
-    pub one-found : {ws : List ℕ} → ws ≡ ofChips (λ k. bitXor p (catchWord cws k)) 9 → Found m cws Answered 2 ws
-    one-found ew = (one-outcome, (more-passes m cws 0 one-chip, one-words ew))
+      pub one-found : {ws : List ℕ} → ws ≡ ofChips (λ k. bitXor p (catchWord cws k)) 9 → Found m cws Answered 2 ws
+      one-found ew = (one-outcome, (more-passes m cws 0 one-chip, one-words ew))
 
   -- two or more flagged
-  module _ (n0 : ones f ≡ 0 → ⊥) (n1 : ones f ≡ 1 → ⊥) where
+  module _ (two : 1 < ones f) where
     several : (P : ℕ → Type 0) → ((n : ℕ) → P (suc (suc n))) → P (flaggedChips m cws)
-    several P h = go (flaggedChips m cws) chips
-      where
-        go : (n : ℕ) → ones f ≡ n → P n
-        go zero q = absurd (n0 q)
-        go (suc zero) q = absurd (n1 q)
-        go (suc (suc n)) q = h n
+    several P h = from-two P (flaggedChips m cws) (λ e. omega (arith, chips)) (λ e. omega (arith, chips)) h
 
     several-passes : 3 ≡ passesOf m cws
     several-passes =
         several (λ n. flaggedChips m cws ≡ n → 3 ≡ passesOf m cws)
         (λ n e. sym (ap (λ (b : Bool). 2 + bit b) (lt-ltb 1 (suc (suc n)) (omega arith))) ∙ more-passes m cws (suc n) e) refl
 
-    several-words : {ws : List ℕ} → ws ≡ ofChips (λ k. mendedWord (cellAt m k)) 9 → laid m cws ws ≡ writtenBack m cws
+    -- by how many of them are beyond mending
+    several-outcome : (i : ℕ) → beyondChips m cws ≡ i → thirdOutcome i m cws ≡ outcomeOf m cws
+    unfolding outcomeOf outcomeBy
+    several-outcome i e = several (λ n. thirdOutcome i m cws ≡ outcomeBy n m cws) (λ n. ap (λ (j : ℕ). thirdOutcome j m cws) (sym e))
+
+    several-word : (i : ℕ) → beyondChips m cws ≡ i → (k : ℕ) → thirdWord i m cws k ≡ wordOf m cws k
     unfolding wordOf wordBy
-    several-words {ws} q =
-        laid-words m cws ws
-        (λ k l t.
-        ap (λ (s : List ℕ). getD s k 0) q
-        ∙ getD-ofChips (λ j. mendedWord (cellAt m j)) 9 k l
-        ∙ sym (third-word m cws k)
-        ∙ several (λ n. passThree m cws k ≡ wordBy n m cws k) (λ n. refl))
+    several-word i e k = several (λ n. thirdWord i m cws k ≡ wordBy n m cws k) (λ n. ap (λ (j : ℕ). thirdWord j m cws k) (sym e))
 
-    several-outcome : {ws : List ℕ} {x : ℕ} {o : Outcome} → ws ≡ ofChips (λ k. mendedWord (cellAt m k)) 9 → x ≡ xorAll (λ k. getD ws k 0) 9
-        → o ≡ cond (eqb x 0) Answered (Refused 21) → o ≡ outcomeOf m cws
-    unfolding outcomeOf outcomeBy mustCancel
-    several-outcome {ws} {x} {o} q r s =
-        let third : x ≡ xorAll (passThree m cws) 9 =
-        r ∙ xorAll-ext (λ k. getD ws k 0) (passThree m cws) 9
-        (λ k l. ap (λ (t : List ℕ). getD t k 0) q ∙ getD-ofChips (λ j. mendedWord (cellAt m j)) 9 k l ∙ sym (third-word m cws k)) in
-        s ∙ ap (λ (y : ℕ). cond (eqb y 0) Answered (Refused 21)) third ∙ several (λ n. mustCancel (passThree m cws) 21 ≡ outcomeBy n m cws) (λ n. refl)
+    -- ws are the words of pass three, x the chips that it tells are beyond mending, and r the xor of the words
+    module _ (ws : List ℕ) (x r : ℕ) (ew : ws ≡ ofChips (λ k. mendedWord (cellAt m k)) 9) (ex : x ≡ mask (λ k. isBeyond (toldAt m k)) 9)
+        (er : r ≡ xorAll (λ k. getD ws k 0) 9) where
+      sent : (k : ℕ) → k < 9 → getD ws k 0 ≡ passThree m cws k
+      sent k l = ap (λ (t : List ℕ). getD t k 0) ew ∙ getD-ofChips (λ j. mendedWord (cellAt m j)) 9 k l ∙ sym (third-sent m cws k)
 
-    pub several-found : {ws : List ℕ} {x : ℕ} {o : Outcome} → ws ≡ ofChips (λ k. mendedWord (cellAt m k)) 9 → x ≡ xorAll (λ k. getD ws k 0) 9
-        → o ≡ cond (eqb x 0) Answered (Refused 21) → Found m cws o 3 ws
-    several-found ew ex eo = (several-outcome ew ex eo, (several-passes, several-words ew))
+      parity : r ≡ xorAll (passThree m cws) 9
+      parity = er ∙ xorAll-ext (λ k. getD ws k 0) (passThree m cws) 9 sent
+
+      beyond-mask : bitAnd f x ≡ mask (isFlaggedBeyond m cws) 9
+      unfolding isFlaggedBeyond
+      beyond-mask = ap₂ bitAnd ef ex ∙ and-masks (isFlagged m cws) (λ k. isBeyond (toldAt m k)) 9
+
+      beyond-ones : ones (bitAnd f x) ≡ beyondChips m cws
+      unfolding beyondChips
+      beyond-ones = ap ones beyond-mask ∙ ones-mask (isFlaggedBeyond m cws) 9
+
+      -- none beyond mending
+      pub mended-found : ones (bitAnd f x) ≡ 0 → {o : Outcome} → o ≡ cond (eqb r 0) Answered (Refused 21) → Found m cws o 3 ws
+      unfolding thirdOutcome thirdWord mustCancel
+      mended-found e eo =
+          let none : beyondChips m cws ≡ 0 = sym beyond-ones ∙ e in (
+            eo ∙ ap (λ (y : ℕ). cond (eqb y 0) Answered (Refused 21)) parity ∙ several-outcome 0 none,
+            (several-passes, laid-words m cws ws (λ k l t. sent k l ∙ several-word 0 none k)),
+          )
+
+      -- one beyond mending
+      module _ (e : ones (bitAnd f x) ≡ 1) (vs : List ℕ)
+          (ev : vs ≡ ofChips (λ k. bitXor (getD ws k 0) (cond (inMask (bitAnd f x) k) r 0)) 9) where
+        one : beyondChips m cws ≡ 1
+        one = sym beyond-ones ∙ e
+
+        -- a word taken off the xor of all nine leaves that of the other eight
+        taken : (k : ℕ) → k < 9 → (b : Bool)
+            → bitXor (passThree m cws k) (cond b (xorAll (passThree m cws) 9) 0) ≡ cond b (xorOthers (passThree m cws) k) (passThree m cws k)
+        unfolding xorOthers
+        taken k l true =
+            ap (bitXor (passThree m cws k)) (xorAll-but (passThree m cws) 9 k l ∙ xor-comm _ (passThree m cws k))
+            ∙ xor-cancel (passThree m cws k) _
+        taken k l false = xor-zero-r (passThree m cws k)
+
+        rebuilt-word : (k : ℕ) → k < 9 → getD vs k 0 ≡ wordOf m cws k
+        unfolding thirdWord
+        rebuilt-word k l =
+            ap (λ (t : List ℕ). getD t k 0) ev
+            ∙ getD-ofChips (λ j. bitXor (getD ws j 0) (cond (inMask (bitAnd f x) j) r 0)) 9 k l
+            ∙ ap₂ (λ (y : ℕ) (b : Bool). bitXor y (cond b r 0)) (sent k l) (member-is (isFlaggedBeyond m cws) beyond-mask l refl)
+            ∙ ap (λ (y : ℕ). bitXor (passThree m cws k) (cond (isFlaggedBeyond m cws k) y 0)) parity
+            ∙ taken k l (isFlaggedBeyond m cws k)
+            ∙ several-word 1 one k
+
+        pub rebuilt-found : Found m cws Answered 3 vs
+        unfolding thirdOutcome
+        rebuilt-found = (several-outcome 1 one, (several-passes, laid-words m cws vs (λ k l t. rebuilt-word k l)))
+
+      -- two or more beyond mending
+      pub beyond-found : (ones (bitAnd f x) ≡ 0 → ⊥) → (ones (bitAnd f x) ≡ 1 → ⊥) → Found m cws (Refused 21) 3 ws
+      unfolding thirdOutcome thirdWord
+      beyond-found n0 n1 =
+          from-two (λ i. beyondChips m cws ≡ i → Found m cws (Refused 21) 3 ws) (beyondChips m cws) (λ e. n0 (beyond-ones ∙ e))
+          (λ e. n1 (beyond-ones ∙ e))
+          (λ i e.
+          (several-outcome (suc (suc i)) e, (several-passes, laid-words m cws ws (λ k l t. sent k l ∙ several-word (suc (suc i)) e k))))
+          refl
 
 -- ---- step 6
 
@@ -214,11 +270,11 @@ module _ (m cws : List ℕ) where
     pub clean-report : xorAll (passOne m cws) 9 ≡ 0 → report Answered 1 0 0 ≡ reportOf m cws
     unfolding ones
     clean-report z =
-        reported (none-outcome m cws 0 0 (sym no-flag) (sym z) refl refl)
-        (few-passes m cws (sym (chips m cws 0 0 (sym no-flag) (sym z))) (sym none) refl) (sym no-flag) (sym no-collision)
+        reported (none-outcome m cws 0 (sym no-flag) 0 (sym z) refl refl)
+        (few-passes m cws (sym (chips m cws 0 (sym no-flag))) (sym none) refl) (sym no-flag) (sym no-collision)
 
     pub clean-bytes : length m ≡ 81 → m ≡ bytesAfter m cws
-    unfolding bytesAfter bytesBy writtenBack isFlagged
+    unfolding bytesAfter bytesBy writtenBack withWords isFlagged
     clean-bytes size = go (outcomeOf m cws)
       where
         go : (o : Outcome) → m ≡ bytesBy o m cws
@@ -238,7 +294,7 @@ module _ (m cws : List ℕ) where
     -- an answered line is written back
     pub answered-bytes : o ≡ Answered → (ws : List ℕ) → {t : List ℕ} → laid m cws ws ≡ writtenBack m cws
         → t ≡ joined (λ k. cond (inMask f k) (codeword (getD ws k 0)) (chipAt m k)) 9 → t ≡ bytesAfter m cws
-    unfolding bytesAfter bytesBy
+    unfolding bytesAfter bytesBy withWords
     answered-bytes e ws {t} q r =
         r ∙ joined-ext _ _ 9 (λ k l. ap (λ (b : Bool). cond b (codeword (getD ws k 0)) (chipAt m k)) (member-is (isFlagged m cws) ef l refl))
         ∙ q

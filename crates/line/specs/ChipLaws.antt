@@ -28,6 +28,12 @@ pub and-second : (a b : Bool) → (a && b) ≡ true → b ≡ true
 and-second true b e = e
 and-second false b e = absurd (omega (arith, ap bit e))
 
+-- where b shows a, both together are b
+pub and-shown : (a b : Bool) → (b ≡ true → a ≡ true) → (a && b) ≡ b
+and-shown true b h = refl
+and-shown false true h = h refl
+and-shown false false h = refl
+
 -- a number k below n + 1 is n or below n
 pub last : {A : Type 0} {k n : ℕ} → k < suc n → (k ≡ n → A) → (k < n → A) → A
 last h f g = ⊎-elim f g (eq-or-lt-of-le (le-of-suc-le-suc h))
@@ -222,7 +228,8 @@ pub count-next : (p : ℕ → Bool) (n : ℕ) → count p n ≡ 0 → p n ≡ fa
 unfolding count
 count-next p n c e = omega (arith, ap bit e)
 
-count-some : (p : ℕ → Bool) (n k : ℕ) → k < n → p k ≡ true → 1 ≤ count p n
+-- a chip that passes the test is counted
+pub count-some : (p : ℕ → Bool) (n k : ℕ) → k < n → p k ≡ true → 1 ≤ count p n
 unfolding count
 count-some p zero k h e = absurd (not-suc-le-zero h)
 count-some p (suc n) k h e =
@@ -240,16 +247,32 @@ count-one p (suc n) c j k hj hk ej ek =
     two : (i : ℕ) → i ≡ n → p i ≡ true → (l : ℕ) → l < n → p l ≡ true → ⊥
     two i q e l h f = omega (arith, ap bit (sym (ap p q) ∙ e), count-some p n l h f)
 
+bit-le : (a b : Bool) → (a ≡ true → b ≡ true) → bit a ≤ bit b
+bit-le true b f = omega (arith, ap bit (f refl))
+bit-le false b f = zero-le
+
+bit-some : (b : Bool) → 1 ≤ bit b → b ≡ true
+bit-some true h = refl
+bit-some false h = absurd (not-suc-le-zero h)
+
 -- where each chip that passes p passes q, no more pass p than q
 pub count-le : (p q : ℕ → Bool) (n : ℕ) → ((k : ℕ) → k < n → p k ≡ true → q k ≡ true) → count p n ≤ count q n
 unfolding count
 count-le p q zero h = zero-le
 count-le p q (suc n) h =
     omega (arith, count-le p q n (λ k l. h k (omega arith)), bit-le (p n) (q n) (h n (omega arith)))
-  where
-    bit-le : (a b : Bool) → (a ≡ true → b ≡ true) → bit a ≤ bit b
-    bit-le true b f = omega (arith, ap bit (f refl))
-    bit-le false b f = zero-le
+
+-- and where as many do, each chip that passes q passes p
+pub count-all : (p q : ℕ → Bool) (n : ℕ) → ((k : ℕ) → k < n → p k ≡ true → q k ≡ true) → count q n ≤ count p n
+    → (k : ℕ) → k < n → q k ≡ true → p k ≡ true
+unfolding count
+count-all p q zero h c k l e = absurd (not-suc-le-zero l)
+count-all p q (suc n) h c k l e =
+    let below : count p n ≤ count q n = count-le p q n (λ j i. h j (omega arith)) in
+    let here : bit (p n) ≤ bit (q n) = bit-le (p n) (q n) (h n (omega arith)) in
+    last l
+    (λ (i : k ≡ n). ap p i ∙ bit-some (p n) (omega (arith, ap bit (sym (ap q i) ∙ e))))
+    (λ (i : k < n). count-all p q n (λ j g. h j (omega arith)) (omega arith) k i e)
 
 -- where f is other than zero at no more than one chip, the xor is zero exactly if f is zero at each chip
 pub xorAll-few : (f : ℕ → ℕ) (n : ℕ) → count (λ k. not (eqb (f k) 0)) n ≤ 1

@@ -1,13 +1,13 @@
--- A line that was stored and then damaged: document 01, "Plain memory", for one line. w gives the nine words that were stored, q the nine
--- patterns as bytes, and p the patterns as numbers, a pattern's word and check as the code has them.
+-- A line that was stored and then damaged: document 01, "Plain memory", and document 02, Req 02, for one line. w gives the nine words that
+-- were stored, q the nine patterns as bytes, and p the patterns as numbers, a pattern's word and check as the code has them.
 -- Definitions alone; what holds of them is in `DamageLaws`.
 use mathlib.Core.Path.{_≡_}
 use Prim.Native.Nat.{ℕ, _^_, _<_, _≤_}
-use mathlib.Core.Bool.{Bool, true, not, _||_}
+use mathlib.Core.Bool.{Bool, true, not, _&&_, _||_}
 use mathlib.Core.List.{List}
 use lib.Dec.{eqb, leb, ltb}
 use lib.Count.{ones}
-use Rattle.code.specs.Code.{isCodeword, mendedWord}
+use Rattle.code.specs.Code.{isCodeword, mendedWord, statusOf, isBeyond}
 use Rattle.line.specs.Chips.{joined, xorAll, count}
 use Rattle.line.specs.Cells.{codeword, xorBytes}
 
@@ -20,10 +20,18 @@ pub record Parity (w : ℕ → ℕ) : Type 0 where
   pub fit : (k : ℕ) → k < 9 → w k < 2 ^ 64
   pub sum : xorAll w 9 ≡ 0
 
+-- pattern k is wide, document 02's term: more than one bit is set
+abbrev pub wide : (ℕ → ℕ) → ℕ → Bool
+wide p k = ltb 1 (ones (p k))
+
+-- pattern k is beyond mending
+abbrev pub beyond : (ℕ → ℕ) → ℕ → Bool
+beyond p k = isBeyond (statusOf (p k))
+
 -- the premise for the nine patterns: none other than zero is a codeword, and at most one has more than one bit set
 pub record Premise (p : ℕ → ℕ) : Type 0 where
   pub detected : (k : ℕ) → k < 9 → isCodeword (p k) ≡ true → p k ≡ 0
-  pub oneWide : count (λ k. ltb 1 (ones (p k))) 9 ≤ 1
+  pub oneWide : count (wide p) 9 ≤ 1
 
 -- how many chips are damaged
 unfoldable pub damages : (ℕ → ℕ) → ℕ
@@ -33,6 +41,11 @@ damages p = count (λ k. not (eqb (p k) 0)) 9
 unfoldable pub undone : (ℕ → ℕ) → Bool
 undone p = eqb (count (λ k. not (eqb (mendedWord (p k)) 0)) 9) 0
 
--- with no or one damaged chip a visit answers; with more it answers if M of every pattern is the zero word
+-- the one wide pattern is beyond mending: just one is wide, and it is
+unfoldable pub wideBeyond : (ℕ → ℕ) → Bool
+wideBeyond p = eqb (count (wide p) 9) 1 && eqb (count (λ k. wide p k && beyond p k) 9) 1
+
+-- with no or one damaged chip a visit answers; with more it answers if M of every pattern is the zero word, and also if the one wide
+-- pattern is beyond mending
 unfoldable pub answers : (ℕ → ℕ) → Bool
-answers p = leb (damages p) 1 || undone p
+answers p = leb (damages p) 1 || (undone p || wideBeyond p)

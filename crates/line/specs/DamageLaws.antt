@@ -2,29 +2,29 @@
 -- that were stored, and its bytes are whole again, or it is refused with 21 and its bytes stay.
 -- Assumes nothing.
 use mathlib.Core.Path.{_≡_, refl, sym, ap, ap₂, _∙_, subst}
-use mathlib.Core.Bool.{Bool, true, false, not, _||_, cond, true≢false}
+use mathlib.Core.Bool.{Bool, true, false, not, _&&_, _||_, cond, and-false, or-false, or-true, true≢false}
 use mathlib.Core.List.{List}
 use Prim.Native.Nat.{ℕ, zero, suc, _/_, _^_, _<_, _≤_}
-use native.Mathlib.Nat.{le-trans}
+use native.Mathlib.Nat.{le-trans, le-antisymm}
 use native.Mathlib.Omega.{arith}
 use lib.Bits.{bitXor, xor-self, xor-zero-r}
 use lib.Count.{ones}
-use lib.Dec.{eqb, leb, ltb}
+use lib.Dec.{eqb, leb}
 use lib.ListN.{length, replicate}
 use borrow.Author.Tests.{eq-eqb, ne-eqb, eqb-true, eqb-false, ltb-false, lt-leb, not-false}
-use Rattle.code.specs.Code.{cell, checkOf, syndromeOf, isCodeword, mendedWord}
+use Rattle.code.specs.Code.{cell, checkOf, syndromeOf, isCodeword, mendedWord, statusOf, isBeyond}
 use Rattle.code.specs.CodeLaws.{cell-word, check-lt, check-makes, codeword-damaged, syndrome-zero, syndrome-codeword}
 use Rattle.code.specs.MendLaws.{mendedWord-damaged, mendedWord-narrow}
-use Rattle.code.specs.XorLaws.{xor-zero-eq}
+use Rattle.code.specs.StatusLaws.{status-damaged, beyond-wide}
 use Rattle.line.specs.Chips.{xorAll, count}
 use Rattle.line.specs.Cells.{numberOf, cellAt, chipAt, codeword, withChip, xorBytes, eightAt, lineWord, stored, lineOf}
 use Rattle.line.specs.ByteLaws.{Bytes, number-lt, number-xor, zeros-only, length-xor, xor-zeros, xor-bytes-assoc}
 use Rattle.line.specs.CellLaws.{length-joined, chip-joined, same-chips, length-chip, cell-number, length-withChip, chip-laid, chip-other, length-codeword, bytes-codeword, number-codeword, lineWord-eight, lineWord-parity, eight-lt, line-stored}
-use Rattle.line.specs.Damage.{damaged, Parity, Premise, damages, undone, answers}
-use Rattle.line.specs.ChipLaws.{last, joined-ext, xorAll-ext, xorAll-lt, xorAll-xor, xorAll-but, xorAll-few, count-ext, count-none, count-le}
-use Rattle.line.specs.Visit.{isFlagged, mustCancel, xorOthers, outcomeOf, wordOf, bytesAfter}
+use Rattle.line.specs.Damage.{damaged, Parity, wide, beyond, Premise, damages, undone, wideBeyond, answers}
+use Rattle.line.specs.ChipLaws.{and-second, and-shown, last, joined-ext, xorAll-ext, xorAll-lt, xorAll-xor, xorAll-few, count-ext, count-none, count-one, count-le, count-all}
+use Rattle.line.specs.Visit.{isFlagged, mustCancel, xorOthers, toldAt, beyondChips, outcomeOf, wordOf, bytesAfter}
 use Rattle.line.specs.Scan.{unsound}
-use Rattle.line.specs.VisitLaws.{heldWord, mendedAt, outcomeWith, wordWith, bytesWith, outcomeFor, wordFor, bytesFor, flagged-is, others-ext, others-sound, outcome-is, word-is, bytes-is}
+use Rattle.line.specs.VisitLaws.{heldWord, mendedAt, beyondAt, thirdOutcomeWith, thirdWordWith, outcomeWith, wordWith, bytesWith, outcomeFor, wordFor, bytesFor, flagged-is, others-ext, others-cancel, others-sound, beyond-chips-count, outcome-is, word-is, bytes-is}
 use Rattle.line.specs.declared.Outcome.{Outcome}
 use Rattle.line.specs.declared.Outcome.the-variants.{Answered, Refused}
 
@@ -128,12 +128,52 @@ premise-codeword p b k h = pick (isCodeword (p k)) refl
 
 -- M of no more than one of them is other than the zero word
 pub premise-mended : (p : ℕ → ℕ) → Premise p → ((k : ℕ) → k < 9 → p k < 2 ^ 72) → count (λ k. not (eqb (mendedWord (p k)) 0)) 9 ≤ 1
-premise-mended p b fit = le-trans (count-le _ (λ k. ltb 1 (ones (p k))) 9 (λ k h. wide k h (ltb 1 (ones (p k))) refl)) (b .oneWide)
+premise-mended p b fit = le-trans (count-le _ (wide p) 9 (λ k h. by k h (wide p k) refl)) (b .oneWide)
   where
-    wide : (k : ℕ) → k < 9 → (t : Bool) → ltb 1 (ones (p k)) ≡ t → not (eqb (mendedWord (p k)) 0) ≡ true → t ≡ true
-    wide k h true e f = refl
-    wide k h false e f =
+    by : (k : ℕ) → k < 9 → (t : Bool) → wide p k ≡ t → not (eqb (mendedWord (p k)) 0) ≡ true → t ≡ true
+    by k h true e f = refl
+    by k h false e f =
         sym (ap not (eq-eqb (mendedWord (p k)) 0 (mendedWord-narrow (p k) (fit k h) (ltb-false 1 (ones (p k)) e)))) ∙ f
+
+module _ (p : ℕ → ℕ) (b : Premise p) (fit : (k : ℕ) → k < 9 → p k < 2 ^ 72) where
+  -- a pattern beyond mending is wide
+  each-wide : (k : ℕ) → k < 9 → beyond p k ≡ true → wide p k ≡ true
+  each-wide k h e = beyond-wide (p k) (fit k h) e
+
+  -- so no more than one is
+  pub premise-beyond : count (beyond p) 9 ≤ 1
+  premise-beyond = le-trans (count-le (beyond p) (wide p) 9 each-wide) (b .oneWide)
+
+  -- where none is, neither is the wide one
+  none-beyond : count (beyond p) 9 ≡ 0 → wideBeyond p ≡ false
+  unfolding wideBeyond
+  none-beyond c =
+      let none : count (λ k. wide p k && beyond p k) 9 ≡ 0 =
+      ≤-zero (count-le (λ k. wide p k && beyond p k) (beyond p) 9 (λ k h. and-second (wide p k) (beyond p k))) in
+      rw none (and-false (eqb (count (wide p) 9) 1))
+    where
+      ≤-zero : {n : ℕ} → n ≤ count (beyond p) 9 → n ≡ 0
+      ≤-zero l = omega arith
+
+  -- where one is, it is the wide one
+  module _ (c : count (beyond p) 9 ≡ 1) where
+    one-beyond : wideBeyond p ≡ true
+    unfolding wideBeyond
+    one-beyond =
+        let few : count (beyond p) 9 ≤ count (wide p) 9 = count-le (beyond p) (wide p) 9 each-wide in
+        let wides : count (wide p) 9 ≡ 1 = le-antisymm (b .oneWide) (omega arith) in
+        let both : count (λ k. wide p k && beyond p k) 9 ≡ 1 =
+        count-ext _ (beyond p) 9 (λ k h. and-shown (wide p k) (beyond p k) (each-wide k h)) ∙ c in
+        ap₂ (λ (x y : ℕ). eqb x 1 && eqb y 1) wides both
+
+    -- and M of each other pattern is the zero word
+    others-undone : (k : ℕ) → k < 9 → beyond p k ≡ false → mendedWord (p k) ≡ 0
+    others-undone k h e = by (wide p k) refl
+      where
+        by : (t : Bool) → wide p k ≡ t → mendedWord (p k) ≡ 0
+        by true f =
+            absurd (true≢false (sym (count-all (beyond p) (wide p) 9 each-wide (le-trans (b .oneWide) (omega arith)) k h f) ∙ e))
+        by false f = mendedWord-narrow (p k) (fit k h) (ltb-false 1 (ones (p k)) f)
 
 -- the test `undone` says that M of each pattern is the zero word
 pub undone-each : (p : ℕ → ℕ) → undone p ≡ true → (k : ℕ) → k < 9 → mendedWord (p k) ≡ 0
@@ -141,11 +181,6 @@ unfolding undone
 undone-each p u k h =
     let some : ℕ → Bool = λ j. not (eqb (mendedWord (p j)) 0) in
     eqb-true (mendedWord (p k)) 0 (not-false (eqb (mendedWord (p k)) 0) (count-none some 9 (eqb-true (count some 9) 0 u) k h))
-
--- a word of a stored line is the xor of the other eight
-pub others-word : (w : ℕ → ℕ) → Parity w → (k : ℕ) → k < 9 → xorOthers w k ≡ w k
-unfolding xorOthers
-others-word w par k h = xor-zero-eq _ (w k) (sym (xorAll-but w 9 k h) ∙ par .sum)
 
 laid-word : (x : ℕ) → cell x (checkOf x) / 256 ≡ x
 laid-word x = cell-word x (checkOf x) (check-lt x)
@@ -184,32 +219,75 @@ module _ (m : List ℕ) (w p : ℕ → ℕ) (par : Parity w) (b : Premise p) (fi
       xorAll-ext (mendedAt m) (λ k. bitXor (w k) (mendedWord (p k))) 9 mended-word ∙ xorAll-xor w (λ k. mendedWord (p k)) 9
       ∙ ap (λ (x : ℕ). bitXor x (xorAll (λ k. mendedWord (p k)) 9)) (par .sum)
 
-  outcome-with : (n : ℕ) → count (unsound m) 9 ≡ n → outcomeWith n m ≡ cond (leb n 1 || undone p) Answered (Refused 21)
-  unfolding outcomeWith mustCancel undone
+  beyond-damaged : (k : ℕ) → k < 9 → beyondAt m k ≡ beyond p k
+  unfolding toldAt
+  beyond-damaged k h =
+      ap isBeyond (ap statusOf (at k h) ∙ status-damaged (cell (w k) (checkOf (w k))) (p k) (check-makes (w k)))
+
+  beyond-count : count (beyondAt m) 9 ≡ count (beyond p) 9
+  beyond-count = count-ext (beyondAt m) (beyond p) 9 beyond-damaged
+
+  third-with : (n : ℕ) → count (beyond p) 9 ≡ n → thirdOutcomeWith n m ≡ cond (undone p || wideBeyond p) Answered (Refused 21)
+  unfolding thirdOutcomeWith mustCancel undone
+  third-with zero c =
+      ap (λ (t : Bool). cond t Answered (Refused 21))
+      (ap (λ (x : ℕ). eqb x 0) mended-xor
+      ∙ xorAll-few (λ k. mendedWord (p k)) 9 (premise-mended p b fit)
+      ∙ sym (ap (λ (t : Bool). undone p || t) (none-beyond p b fit c) ∙ or-false (undone p)))
+  third-with (suc zero) c =
+      ap (λ (t : Bool). cond t Answered (Refused 21)) (sym (ap (λ (t : Bool). undone p || t) (one-beyond p b fit c) ∙ or-true (undone p)))
+  third-with (suc (suc n)) c = absurd (omega (arith, premise-beyond p b fit))
+
+  outcome-with : (n : ℕ) → count (unsound m) 9 ≡ n → outcomeWith n m ≡ cond (leb n 1 || (undone p || wideBeyond p)) Answered (Refused 21)
+  unfolding outcomeWith mustCancel
   outcome-with zero c = rw (xorAll-ext (heldWord m) w 9 (λ k h. whole-word k h (count-none (unsound m) 9 c k h)) ∙ par .sum)
   outcome-with (suc zero) c = refl
   outcome-with (suc (suc n)) c =
-      rw (lt-leb (suc (suc n)) 1 (omega arith), mended-xor, xorAll-few (λ k. mendedWord (p k)) 9 (premise-mended p b fit))
+      ap (λ (i : ℕ). thirdOutcomeWith i m) beyond-count
+      ∙ third-with (count (beyond p) 9) refl
+      ∙ ap (λ (t : Bool). cond (t || (undone p || wideBeyond p)) Answered (Refused 21)) (sym (lt-leb (suc (suc n)) 1 (omega arith)))
 
   outcome-for : outcomeFor m ≡ cond (answers p) Answered (Refused 21)
   unfolding outcomeFor answers
-  outcome-for = outcome-with (count (unsound m) 9) refl ∙ ap (λ (n : ℕ). cond (leb n 1 || undone p) Answered (Refused 21)) unsound-count
+  outcome-for =
+      outcome-with (count (unsound m) 9) refl
+      ∙ ap (λ (n : ℕ). cond (leb n 1 || (undone p || wideBeyond p)) Answered (Refused 21)) unsound-count
 
-  word-with : (n : ℕ) → count (unsound m) 9 ≡ n → (leb n 1 || undone p) ≡ true → (k : ℕ) → k < 9 → wordWith n m k ≡ w k
+  mended-whole : (k : ℕ) → k < 9 → mendedWord (p k) ≡ 0 → mendedAt m k ≡ w k
+  mended-whole k h e = mended-word k h ∙ ap (bitXor (w k)) e ∙ xor-zero-r (w k)
+
+  third-word-with : (n : ℕ) → count (beyond p) 9 ≡ n → (undone p || wideBeyond p) ≡ true → (k : ℕ) → k < 9 → thirdWordWith n m k ≡ w k
+  unfolding thirdWordWith
+  third-word-with zero c a k h =
+      let u : undone p ≡ true = sym (ap (λ (t : Bool). undone p || t) (none-beyond p b fit c) ∙ or-false (undone p)) ∙ a in
+      mended-whole k h (undone-each p u k h)
+  third-word-with (suc zero) c a k h = pick (beyondAt m k) refl
+    where
+      other : beyondAt m k ≡ true → (j : ℕ) → j < 9 → (j ≡ k → ⊥) → (t : Bool) → beyond p j ≡ t → mendedWord (p j) ≡ 0
+      other e j l ne true f = absurd (ne (count-one (beyond p) 9 (omega arith) j k l h f (sym (beyond-damaged k h) ∙ e)))
+      other e j l ne false f = others-undone p b fit c j l f
+
+      pick : (t : Bool) → beyondAt m k ≡ t → cond t (xorOthers (mendedAt m) k) (mendedAt m k) ≡ w k
+      pick true e = others-ext (mendedAt m) w k (λ j l ne. mended-whole j l (other e j l ne (beyond p j) refl)) ∙ others-cancel w (par .sum) k h
+      pick false e = mended-whole k h (others-undone p b fit c k h (sym (beyond-damaged k h) ∙ e))
+  third-word-with (suc (suc n)) c a k h = absurd (omega (arith, premise-beyond p b fit))
+
+  word-with : (n : ℕ) → count (unsound m) 9 ≡ n → (leb n 1 || (undone p || wideBeyond p)) ≡ true → (k : ℕ) → k < 9 → wordWith n m k ≡ w k
   unfolding wordWith
   word-with zero c a k h = whole-word k h (count-none (unsound m) 9 c k h)
   word-with (suc zero) c a k h = pick (unsound m k) refl
     where
       pick : (t : Bool) → unsound m k ≡ t → cond t (xorOthers (heldWord m) k) (heldWord m k) ≡ w k
-      pick true e = others-ext (heldWord m) w k (λ j l ne. whole-word j l (others-sound m c k h e j l ne)) ∙ others-word w par k h
+      pick true e = others-ext (heldWord m) w k (λ j l ne. whole-word j l (others-sound m c k h e j l ne)) ∙ others-cancel w (par .sum) k h
       pick false e = whole-word k h e
   word-with (suc (suc n)) c a k h =
-      let u : undone p ≡ true = sym (ap (λ (t : Bool). t || undone p) (lt-leb (suc (suc n)) 1 (omega arith))) ∙ a in
-      mended-word k h ∙ ap (bitXor (w k)) (undone-each p u k h) ∙ xor-zero-r (w k)
+      ap (λ (i : ℕ). thirdWordWith i m k) beyond-count
+      ∙ third-word-with (count (beyond p) 9) refl
+      (sym (ap (λ (t : Bool). t || (undone p || wideBeyond p)) (lt-leb (suc (suc n)) 1 (omega arith))) ∙ a) k h
 
   word-for : answers p ≡ true → (k : ℕ) → k < 9 → wordFor m k ≡ w k
   unfolding wordFor answers
-  word-for a = word-with (count (unsound m) 9) refl (ap (λ (n : ℕ). leb n 1 || undone p) unsound-count ∙ a)
+  word-for a = word-with (count (unsound m) 9) refl (ap (λ (n : ℕ). leb n 1 || (undone p || wideBeyond p)) unsound-count ∙ a)
 
   bytes-with : (a : Bool) → answers p ≡ a → bytesWith (cond a Answered (Refused 21)) (wordFor m) m ≡ cond a (stored w) m
   unfolding bytesWith stored
@@ -250,7 +328,8 @@ module _ (w : ℕ → ℕ) (q : ℕ → List ℕ) (par : Parity w) (nine : (k : 
       ∙ xor-zeros (codeword (w k)) 9 (length-codeword (w k))
 
   module _ (cws : List ℕ) where
-    -- with no or one damaged chip the visit answers; with more it answers if M of every pattern is the zero word, else it refuses with 21
+    -- with no or one damaged chip the visit answers; with more it answers if M of every pattern is the zero word or the one wide pattern is
+    -- beyond mending, else it refuses with 21
     pub visit-outcome : outcomeOf (damaged w q) cws ≡ cond (answers (λ k. numberOf (q k))) Answered (Refused 21)
     visit-outcome = step-outcome (damaged w q) w (λ k. numberOf (q k)) par b patterns-lt cells wholes cws
 
@@ -261,6 +340,13 @@ module _ (w : ℕ → ℕ) (q : ℕ → List ℕ) (par : Parity w) (nine : (k : 
     -- an answer gives the words that were stored
     pub visit-word : answers (λ k. numberOf (q k)) ≡ true → (k : ℕ) → k < 9 → wordOf (damaged w q) cws k ≡ w k
     visit-word = step-word (damaged w q) w (λ k. numberOf (q k)) par b patterns-lt cells wholes cws
+
+    -- no more than one flagged chip is beyond mending
+    pub visit-beyond : beyondChips (damaged w q) cws ≤ 1
+    visit-beyond =
+        subst (λ (n : ℕ). n ≤ 1)
+        (sym (beyond-chips-count (damaged w q) cws ∙ beyond-count (damaged w q) w (λ k. numberOf (q k)) par b patterns-lt cells wholes))
+        (premise-beyond (λ k. numberOf (q k)) b patterns-lt)
 
     -- the flagged chips are the damaged ones
     pub visit-flagged : (k : ℕ) → k < 9 → isFlagged (damaged w q) cws k ≡ not (eqb (numberOf (q k)) 0)

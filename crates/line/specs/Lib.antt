@@ -4,6 +4,7 @@ pub mod Visit
 pub mod Checks
 pub mod Scan
 pub mod Damage
+pub mod Former
 pub mod ChipLaws
 pub mod ByteLaws
 pub mod CellLaws
@@ -11,4 +12,5 @@ pub mod CheckLaws
 pub mod ArrayLaws
 pub mod VisitLaws
 pub mod ScanLaws
+pub mod FormerLaws
 pub mod DamageLaws

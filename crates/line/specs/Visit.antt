@@ -1,13 +1,14 @@
--- Document 01, "The code inside a chip" (what a chip sends) and "A visit to a line", step by step. m stands for the line's 81 bytes,
--- cws for the nine catch-words and k for a chip's number. A catch-word, document 01's term, is what the controller expects of a chip in
+-- Document 01, "The code inside a chip" (what a chip sends) and "A visit to a line", step by step; document 02, Req 02, in step 5. m stands
+-- for the line's 81 bytes, cws for the nine catch-words and k for a chip's number. A catch-word, document 01's term, is what the controller expects of a chip in
 -- place of a word that the chip knows is bad; a register is what the chip then sends.
--- Definitions alone; what holds of them is in `VisitLaws` and `DamageLaws`.
+-- Definitions alone; what holds of them is in `VisitLaws`, `DamageLaws` and `FormerLaws`.
 use Prim.Native.Nat.{ℕ, zero, suc, _+_, _-_, _/_, _^_}
 use mathlib.Core.Bool.{Bool, true, false, not, _&&_, cond}
 use mathlib.Core.List.{List}
 use lib.ListN.{getD}
 use lib.Dec.{eqb, ltb}
-use Rattle.code.specs.Code.{isCodeword, mendedWord}
+use Rattle.code.specs.Code.{isCodeword, mendedWord, statusOf, isBeyond}
+use Rattle.code.specs.declared.Status.{Status}
 use Rattle.line.specs.Chips.{joined, xorAll, bit, count, mask}
 use Rattle.line.specs.Cells.{cellAt, chipAt, codeword}
 use Rattle.line.specs.declared.Report.{Report}
@@ -61,22 +62,45 @@ mustCancel words number = cond (eqb (xorAll words 9) 0) Answered (Refused number
 unfoldable pub xorOthers : (ℕ → ℕ) → ℕ → ℕ
 xorOthers words k = xorAll (λ j. cond (eqb j k) 0 (words j)) 9
 
--- 5. Two or more: pass three with Enable clear. The nine words sent must xor to zero, else 21. The registers are still those of pass two,
--- and no chip sends them.
+-- 5. Two or more: pass three with Enable clear. The registers are still those of pass two, and no chip sends them.
 unfoldable pub passThree : List ℕ → List ℕ → ℕ → ℕ
 passThree m cws = sentAt false (complement cws) m
+
+-- Document 02, Req 02: for each word sent with Enable clear a chip tells its status
+unfoldable pub toldAt : List ℕ → ℕ → Status
+toldAt m k = statusOf (cellAt m k)
+
+-- a flagged chip that is beyond mending
+unfoldable pub isFlaggedBeyond : List ℕ → List ℕ → ℕ → Bool
+isFlaggedBeyond m cws k = isFlagged m cws k && isBeyond (toldAt m k)
+
+unfoldable pub beyondChips : List ℕ → List ℕ → ℕ
+beyondChips m cws = count (isFlaggedBeyond m cws) 9
+
+-- the outcome after pass three, by how many flagged chips are beyond mending. None: the nine words sent must xor to zero, else 21. Just
+-- one: it is answered. Two or more: 21.
+unfoldable pub thirdOutcome : ℕ → List ℕ → List ℕ → Outcome
+thirdOutcome zero m cws = mustCancel (passThree m cws) 21
+thirdOutcome (suc zero) m cws = Answered
+thirdOutcome (suc (suc n)) m cws = Refused 21
+
+-- chip k's word after pass three: if just one flagged chip is beyond mending, its word is the xor of the other eight
+unfoldable pub thirdWord : ℕ → List ℕ → List ℕ → ℕ → ℕ
+thirdWord zero m cws k = passThree m cws k
+thirdWord (suc zero) m cws k = cond (isFlaggedBeyond m cws k) (xorOthers (passThree m cws) k) (passThree m cws k)
+thirdWord (suc (suc n)) m cws k = passThree m cws k
 
 -- the outcome of steps 3 to 5, by how many chips are flagged
 unfoldable pub outcomeBy : ℕ → List ℕ → List ℕ → Outcome
 outcomeBy zero m cws = mustCancel (passOne m cws) 20
 outcomeBy (suc zero) m cws = Answered
-outcomeBy (suc (suc n)) m cws = mustCancel (passThree m cws) 21
+outcomeBy (suc (suc n)) m cws = thirdOutcome (beyondChips m cws) m cws
 
 -- chip k's word by steps 3 to 5
 unfoldable pub wordBy : ℕ → List ℕ → List ℕ → ℕ → ℕ
 wordBy zero m cws k = passOne m cws k
 wordBy (suc zero) m cws k = cond (isFlagged m cws k) (xorOthers (passOne m cws) k) (passOne m cws k)
-wordBy (suc (suc n)) m cws k = passThree m cws k
+wordBy (suc (suc n)) m cws k = thirdWord (beyondChips m cws) m cws k
 
 unfoldable pub outcomeOf : List ℕ → List ℕ → Outcome
 outcomeOf m cws = outcomeBy (flaggedChips m cws) m cws
@@ -86,8 +110,11 @@ wordOf m cws = wordBy (flaggedChips m cws) m cws
 
 -- 6. Only an answered line is written back: each flagged chip gets its word and check byte. The rest of step 6 is the record's: its total and
 -- the colliding chips' catch-words change by what is reported here, and its registers and Enable are in the end as in pass one.
+unfoldable pub withWords : (ℕ → ℕ) → List ℕ → List ℕ → List ℕ
+withWords words m cws = joined (λ k. cond (isFlagged m cws k) (codeword (words k)) (chipAt m k)) 9
+
 unfoldable pub writtenBack : List ℕ → List ℕ → List ℕ
-writtenBack m cws = joined (λ k. cond (isFlagged m cws k) (codeword (wordOf m cws k)) (chipAt m k)) 9
+writtenBack m cws = withWords (wordOf m cws) m cws
 
 unfoldable pub bytesBy : Outcome → List ℕ → List ℕ → List ℕ
 bytesBy Answered m cws = writtenBack m cws

@@ -1,7 +1,9 @@
--- The closed form of a visit. The flagged chips are those that hold no codeword, and the line's bytes alone decide the outcome, the words
--- and the bytes after it; the catch-words decide the collisions, and with them whether pass two is made. m and cws are any lists, but in the last laws m is 81 bytes.
+-- The closed form of a visit. The flagged chips are those that hold no codeword, and the line's bytes alone decide which of them are beyond
+-- mending, the outcome, the words and the bytes after it; the catch-words decide the collisions, and with them whether pass two is made. m and
+-- cws are any lists, but in the last laws m is 81 bytes.
 -- Assumes nothing.
 use mathlib.Core.Path.{_≡_, refl, sym, ap, _∙_}
+use mathlib.Core.Logic.{_⊎_, inl, inr}
 use mathlib.Core.Bool.{Bool, true, false, not, _&&_, _||_, cond}
 use mathlib.Core.List.{List}
 use Prim.Native.Nat.{ℕ, zero, suc, _+_, _/_, _^_, _<_}
@@ -10,15 +12,17 @@ use lib.Dec.{eqb, ltb, lit<}
 use lib.ListN.{length, take}
 use lib.Pow.{shr-lt}
 use borrow.Author.Tests.{eq-eqb, ne-eqb, eqb-true, eqb-false, not-false}
-use Rattle.code.specs.Code.{isCodeword, mendedWord}
+use Rattle.code.specs.Code.{isCodeword, mendedWord, isBeyond}
 use Rattle.code.specs.CodeLaws.{codeword-syndrome}
 use Rattle.code.specs.MendLaws.{mendedWord-codeword, mendedWord-lt}
-use Rattle.line.specs.Chips.{joined, bit, count, mask}
+use Rattle.code.specs.StatusLaws.{codeword-mends}
+use Rattle.code.specs.XorLaws.{xor-zero-eq}
+use Rattle.line.specs.Chips.{joined, xorAll, bit, count, mask}
 use Rattle.line.specs.Cells.{numberOf, wordAt, cellAt, chipAt, codeword}
 use Rattle.line.specs.ByteLaws.{Bytes, number-bytesOf}
 use Rattle.line.specs.CellLaws.{length-joined, chip-joined, length-chip, cell-fits, word-chip, held-word, length-codeword, eight-codeword}
-use Rattle.line.specs.ChipLaws.{joined-ext, xorAll-ext, xorAll-lt, count-ext, mask-ext, count-none, count-one}
-use Rattle.line.specs.Visit.{sends, sentAt, catchWord, passOne, isCandidate, complement, passTwo, follows, isFlagged, isCollision, flaggedChips, mustCancel, xorOthers, passThree, outcomeBy, wordBy, outcomeOf, wordOf, writtenBack, bytesBy, bytesAfter, passesOf}
+use Rattle.line.specs.ChipLaws.{joined-ext, xorAll-ext, xorAll-lt, xorAll-but, count-ext, mask-ext, count-none, count-one}
+use Rattle.line.specs.Visit.{sends, sentAt, catchWord, passOne, isCandidate, complement, passTwo, follows, isFlagged, isCollision, flaggedChips, mustCancel, xorOthers, passThree, toldAt, isFlaggedBeyond, beyondChips, thirdOutcome, thirdWord, outcomeBy, wordBy, outcomeOf, wordOf, withWords, writtenBack, bytesBy, bytesAfter, passesOf}
 use Rattle.line.specs.Scan.{unsound}
 use Rattle.line.specs.declared.Outcome.{Outcome}
 use Rattle.line.specs.declared.Outcome.the-variants.{Answered, Refused}
@@ -33,21 +37,37 @@ heldWord m k = cellAt m k / 256
 abbrev pub mendedAt : List ℕ → ℕ → ℕ
 mendedAt m k = mendedWord (cellAt m k)
 
+-- chip k is beyond mending
+abbrev pub beyondAt : List ℕ → ℕ → Bool
+beyondAt m k = isBeyond (toldAt m k)
+
 -- chip k holds a codeword whose word is its catch-word
 unfoldable pub matches : List ℕ → List ℕ → ℕ → Bool
 matches m cws k = isCodeword (cellAt m k) && eqb (heldWord m k) (catchWord cws k)
+
+-- the outcome after pass three, by how many chips are beyond mending
+unfoldable pub thirdOutcomeWith : ℕ → List ℕ → Outcome
+thirdOutcomeWith zero m = mustCancel (mendedAt m) 21
+thirdOutcomeWith (suc zero) m = Answered
+thirdOutcomeWith (suc (suc n)) m = Refused 21
+
+-- chip k's word after pass three, by how many chips are beyond mending
+unfoldable pub thirdWordWith : ℕ → List ℕ → ℕ → ℕ
+thirdWordWith zero m k = mendedAt m k
+thirdWordWith (suc zero) m k = cond (beyondAt m k) (xorOthers (mendedAt m) k) (mendedAt m k)
+thirdWordWith (suc (suc n)) m k = mendedAt m k
 
 -- the outcome, by how many chips hold no codeword
 unfoldable pub outcomeWith : ℕ → List ℕ → Outcome
 outcomeWith zero m = mustCancel (heldWord m) 20
 outcomeWith (suc zero) m = Answered
-outcomeWith (suc (suc n)) m = mustCancel (mendedAt m) 21
+outcomeWith (suc (suc n)) m = thirdOutcomeWith (count (beyondAt m) 9) m
 
 -- chip k's word, by how many chips hold no codeword
 unfoldable pub wordWith : ℕ → List ℕ → ℕ → ℕ
 wordWith zero m k = heldWord m k
 wordWith (suc zero) m k = cond (unsound m k) (xorOthers (heldWord m) k) (heldWord m k)
-wordWith (suc (suc n)) m k = mendedAt m k
+wordWith (suc (suc n)) m k = thirdWordWith (count (beyondAt m) 9) m k
 
 -- the bytes after a visit, by its outcome
 unfoldable pub bytesWith : Outcome → (ℕ → ℕ) → List ℕ → List ℕ
@@ -78,9 +98,9 @@ pub sent-held : (m cws : List ℕ) (k : ℕ) → Bytes m → unsound m k ≡ fal
 sent-held m cws k bytes e = sent-word m cws k e ∙ held-word m k bytes
 
 -- any chip sends M of its nine bytes in pass three
-pub third-word : (m cws : List ℕ) (k : ℕ) → passThree m cws k ≡ mendedAt m k
+pub third-sent : (m cws : List ℕ) (k : ℕ) → passThree m cws k ≡ mendedAt m k
 unfolding passThree sentAt sends
-third-word m cws k = refl
+third-sent m cws k = refl
 
 -- M of a codeword's nine bytes is its word
 sound-mended : (m : List ℕ) (k : ℕ) → unsound m k ≡ false → mendedAt m k ≡ heldWord m k
@@ -92,6 +112,11 @@ pub sound-sends : (enable : Bool) (register : ℕ) (m : List ℕ) (k : ℕ) → 
 unfolding sends unsound
 sound-sends true register m k bytes h = rw (not-false (isCodeword (cellAt m k)) h) (held-word m k bytes)
 sound-sends false register m k bytes h = sound-mended m k h ∙ held-word m k bytes
+
+-- a chip that holds a codeword is not beyond mending
+pub sound-mends : (m : List ℕ) (k : ℕ) → unsound m k ≡ false → beyondAt m k ≡ false
+unfolding unsound toldAt
+sound-mends m k h = codeword-mends (cellAt m k) (not-false (isCodeword (cellAt m k)) h)
 
 -- ---- which chips are flagged
 
@@ -151,6 +176,22 @@ module _ (m cws : List ℕ) where
   unfolding flaggedChips
   flagged-count = count-ext (isFlagged m cws) (unsound m) 9 (λ k _. flagged-is k)
 
+-- ---- which chips are beyond mending
+
+module _ (m cws : List ℕ) where
+  -- the flagged chips beyond mending are the chips beyond mending
+  pub flagged-beyond-is : (k : ℕ) → isFlaggedBeyond m cws k ≡ beyondAt m k
+  unfolding isFlaggedBeyond
+  flagged-beyond-is k = ap (λ (b : Bool). b && beyondAt m k) (flagged-is m cws k) ∙ pick (unsound m k) refl
+    where
+      pick : (b : Bool) → unsound m k ≡ b → (b && beyondAt m k) ≡ beyondAt m k
+      pick true e = refl
+      pick false e = sym (sound-mends m k e)
+
+  pub beyond-chips-count : beyondChips m cws ≡ count (beyondAt m) 9
+  unfolding beyondChips
+  beyond-chips-count = count-ext (isFlaggedBeyond m cws) (beyondAt m) 9 (λ k _. flagged-beyond-is k)
+
 -- ---- the outcome, the words, the bytes
 
 -- the xor of the chips other than k is the same for two functions that agree at those
@@ -162,6 +203,11 @@ others-ext f g k h = xorAll-ext _ _ 9 (λ j l. pick j l (eqb j k) refl)
     pick j l true e = refl
     pick j l false e = h j l (eqb-false j k e)
 
+-- where all nine xor to zero, each is the xor of the other eight
+pub others-cancel : (f : ℕ → ℕ) → xorAll f 9 ≡ 0 → (k : ℕ) → k < 9 → xorOthers f k ≡ f k
+unfolding xorOthers
+others-cancel f e k h = xor-zero-eq _ (f k) (sym (xorAll-but f 9 k h) ∙ e)
+
 -- where one chip holds no codeword, the others do
 pub others-sound : (m : List ℕ) → count (unsound m) 9 ≡ 1 → (k : ℕ) → k < 9 → unsound m k ≡ true
     → (j : ℕ) → j < 9 → (j ≡ k → ⊥) → unsound m j ≡ false
@@ -172,16 +218,28 @@ others-sound m c k h e j l ne = pick (unsound m j) refl
     pick false f = refl
 
 module _ (m cws : List ℕ) where
+  third-outcome : (n : ℕ) → thirdOutcome n m cws ≡ thirdOutcomeWith n m
+  unfolding thirdOutcome thirdOutcomeWith mustCancel passThree sentAt sends
+  third-outcome zero = refl
+  third-outcome (suc zero) = refl
+  third-outcome (suc (suc n)) = refl
+
   outcome-by : (n : ℕ) → count (unsound m) 9 ≡ n → outcomeBy n m cws ≡ outcomeWith n m
   unfolding outcomeBy outcomeWith mustCancel
   outcome-by zero c = rw (xorAll-ext (passOne m cws) (heldWord m) 9 (λ k h. sent-word m cws k (count-none (unsound m) 9 c k h)))
   outcome-by (suc zero) c = refl
-  outcome-by (suc (suc n)) c = rw (xorAll-ext (passThree m cws) (mendedAt m) 9 (λ k h. third-word m cws k))
+  outcome-by (suc (suc n)) c = rw (beyond-chips-count m cws) (third-outcome (count (beyondAt m) 9))
 
   -- the outcome is that by the line's bytes alone
   pub outcome-is : outcomeOf m cws ≡ outcomeFor m
   unfolding outcomeOf outcomeFor
   outcome-is = rw (flagged-count m cws) (outcome-by (count (unsound m) 9) refl)
+
+  third-by : (n k : ℕ) → thirdWord n m cws k ≡ thirdWordWith n m k
+  unfolding thirdWord thirdWordWith passThree sentAt sends
+  third-by zero k = refl
+  third-by (suc zero) k = rw (flagged-beyond-is m cws k)
+  third-by (suc (suc n)) k = refl
 
   word-by : (n : ℕ) → count (unsound m) 9 ≡ n → (k : ℕ) → k < 9 → wordBy n m cws k ≡ wordWith n m k
   unfolding wordBy wordWith
@@ -192,7 +250,7 @@ module _ (m cws : List ℕ) where
           → cond b (xorOthers (passOne m cws) k) (passOne m cws k) ≡ cond b (xorOthers (heldWord m) k) (heldWord m k)
       pick true e = others-ext (passOne m cws) (heldWord m) k (λ j l ne. sent-word m cws j (others-sound m c k h e j l ne))
       pick false e = sent-word m cws k e
-  word-by (suc (suc n)) c k h = third-word m cws k
+  word-by (suc (suc n)) c k h = rw (beyond-chips-count m cws) (third-by (count (beyondAt m) 9) k)
 
   -- so is chip k's word, whether the line is answered or refused
   pub word-is : (k : ℕ) → k < 9 → wordOf m cws k ≡ wordFor m k
@@ -204,7 +262,7 @@ module _ (m cws : List ℕ) where
   written-is k h = rw (flagged-is m cws k, word-is k h)
 
   bytes-by : (o : Outcome) → bytesBy o m cws ≡ bytesWith o (wordFor m) m
-  unfolding bytesBy bytesWith writtenBack
+  unfolding bytesBy bytesWith writtenBack withWords
   bytes-by Answered = joined-ext _ _ 9 written-is
   bytes-by (Refused number) = refl
 
@@ -212,6 +270,30 @@ module _ (m cws : List ℕ) where
   pub bytes-is : bytesAfter m cws ≡ bytesFor m
   unfolding bytesAfter bytesFor
   bytes-is = rw outcome-is (bytes-by (outcomeFor m))
+
+-- ---- how a visit ends
+
+-- an outcome is an answer, or a refusal with 20 or 21
+abbrev pub Ends : Outcome → Type 0
+Ends o = (o ≡ Answered) ⊎ ((o ≡ Refused 20) ⊎ (o ≡ Refused 21))
+
+cancel-ends : (b : Bool) (number : ℕ) → Ends (Refused number) → Ends (cond b Answered (Refused number))
+cancel-ends true number h = inl refl
+cancel-ends false number h = h
+
+pub outcome-ends : (m cws : List ℕ) → Ends (outcomeOf m cws)
+unfolding outcomeOf outcomeBy thirdOutcome mustCancel
+outcome-ends m cws = by (flaggedChips m cws)
+  where
+    third : (n : ℕ) → Ends (thirdOutcome n m cws)
+    third zero = cancel-ends (eqb (xorAll (passThree m cws) 9) 0) 21 (inr (inr refl))
+    third (suc zero) = inl refl
+    third (suc (suc n)) = inr (inr refl)
+
+    by : (n : ℕ) → Ends (outcomeBy n m cws)
+    by zero = cancel-ends (eqb (xorAll (passOne m cws) 9) 0) 20 (inr (inl refl))
+    by (suc zero) = inl refl
+    by (suc (suc n)) = third (beyondChips m cws)
 
 -- ---- two lists of catch-words
 
@@ -246,26 +328,46 @@ module _ (m : List ℕ) (size : length m ≡ 81) (bytes : Bytes m) where
   held-lt : (k : ℕ) → k < 9 → heldWord m k < 2 ^ 64
   held-lt k l = shr-lt 64 8 (cell-fits m k size bytes l)
 
-  word-lt : (n k : ℕ) → k < 9 → wordWith n m k < 2 ^ 64
-  unfolding wordWith xorOthers
-  word-lt zero k l = held-lt k l
-  word-lt (suc zero) k l = pick (unsound m k)
+  others-lt : (f : ℕ → ℕ) (k : ℕ) → ((j : ℕ) → j < 9 → f j < 2 ^ 64) → xorOthers f k < 2 ^ 64
+  unfolding xorOthers
+  others-lt f k h = xorAll-lt _ 64 9 (λ j l. pick j l (eqb j k))
     where
-      other : (j : ℕ) → j < 9 → (b : Bool) → cond b 0 (heldWord m j) < 2 ^ 64
-      other j h true = lit< tt
-      other j h false = held-lt j h
+      pick : (j : ℕ) → j < 9 → (b : Bool) → cond b 0 (f j) < 2 ^ 64
+      pick j l true = lit< tt
+      pick j l false = h j l
 
-      pick : (b : Bool) → cond b (xorOthers (heldWord m) k) (heldWord m k) < 2 ^ 64
-      pick true = xorAll-lt _ 64 9 (λ j h. other j h (eqb j k))
-      pick false = held-lt k l
-  word-lt (suc (suc n)) k l = mendedWord-lt (cellAt m k) (cell-fits m k size bytes l)
+  -- a word that is rebuilt or not
+  either-lt : (f : ℕ → ℕ) (k : ℕ) → k < 9 → ((j : ℕ) → j < 9 → f j < 2 ^ 64) → (b : Bool) → cond b (xorOthers f k) (f k) < 2 ^ 64
+  either-lt f k l h true = others-lt f k h
+  either-lt f k l h false = h k l
+
+  mended-lt : (k : ℕ) → k < 9 → mendedAt m k < 2 ^ 64
+  mended-lt k l = mendedWord-lt (cellAt m k) (cell-fits m k size bytes l)
+
+  third-lt : (n k : ℕ) → k < 9 → thirdWordWith n m k < 2 ^ 64
+  unfolding thirdWordWith
+  third-lt zero k l = mended-lt k l
+  third-lt (suc zero) k l = either-lt (mendedAt m) k l mended-lt (beyondAt m k)
+  third-lt (suc (suc n)) k l = mended-lt k l
+
+  word-lt : (n k : ℕ) → k < 9 → wordWith n m k < 2 ^ 64
+  unfolding wordWith
+  word-lt zero k l = held-lt k l
+  word-lt (suc zero) k l = either-lt (heldWord m) k l held-lt (unsound m k)
+  word-lt (suc (suc n)) k l = third-lt (count (beyondAt m) 9) k l
+
+  third-kept : (n k : ℕ) → unsound m k ≡ false → thirdWordWith n m k ≡ heldWord m k
+  unfolding thirdWordWith
+  third-kept zero k e = sound-mended m k e
+  third-kept (suc zero) k e = rw (sound-mends m k e) (sound-mended m k e)
+  third-kept (suc (suc n)) k e = sound-mended m k e
 
   -- a chip that holds a codeword keeps its word
   word-kept : (n k : ℕ) → unsound m k ≡ false → wordWith n m k ≡ heldWord m k
   unfolding wordWith
   word-kept zero k e = refl
   word-kept (suc zero) k e = rw e
-  word-kept (suc (suc n)) k e = sound-mended m k e
+  word-kept (suc (suc n)) k e = third-kept (count (beyondAt m) 9) k e
 
   -- an answered line holds the words of steps 3 to 5
   pub word-after : (cws : List ℕ) → outcomeOf m cws ≡ Answered → (k : ℕ) → k < 9 → wordAt (bytesAfter m cws) k ≡ wordOf m cws k
@@ -293,7 +395,7 @@ module _ (m : List ℕ) (size : length m ≡ 81) (bytes : Bytes m) where
 
 -- a visit leaves as many bytes as it found
 pub length-after : (m cws : List ℕ) → length m ≡ 81 → length (bytesAfter m cws) ≡ 81
-unfolding bytesAfter bytesBy writtenBack
+unfolding bytesAfter bytesBy writtenBack withWords
 length-after m cws size = by (outcomeOf m cws)
   where
     nine : (k : ℕ) → k < 9 → (b : Bool) → length (cond b (codeword (wordOf m cws k)) (chipAt m k)) ≡ 9

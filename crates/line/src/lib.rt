@@ -1,12 +1,15 @@
-// The nine chips of one line in its 81 lent bytes, and a visit to it (document 01, "A visit to a line").
+// The nine chips of one line in its 81 lent bytes, and a visit to it (document 01, "A visit to a line"; step 5 as document 02's Req 02
+// has it).
 ghost use mathlib.Core.Path.{_≡_};
 ghost use mathlib.Core.Bool.{cond};
+ghost use Prim.Native.Nat.{_<_};
 ghost use lib.Bits.{bitXor};
+ghost use lib.Count.{ones};
 ghost use lib.Dec.{eqb};
 ghost use lib.ListN.{length, getD};
 ghost use Rattle.line.specs.Chips.{ofChips, joined, xorAll, mask, inMask};
 ghost use Rattle.line.specs.Cells.{chipAt, codeword};
-ghost use Rattle.line.specs.Visit.{catchWord, passOne, isCandidate, isFlagged, outcomeOf, writtenBack, bytesAfter, passesOf, reportOf, refusalOf};
+ghost use Rattle.line.specs.Visit.{catchWord, passOne, isCandidate, isFlagged, outcomeOf, withWords, writtenBack, bytesAfter, passesOf, reportOf, refusalOf};
 ghost use Rattle.line.specs.Scan.{unsound};
 ghost use Rattle.line.specs.declared.Outcome.the-variants.{Answered, Refused};
 
@@ -22,8 +25,8 @@ mod third;
 
 use first::Heard;
 
-// Refusals of a visit, by their number in document 01: none flagged and the words don't xor to zero; two or more flagged and the
-// mended words don't.
+// Refusals of a visit, by their number in document 01: none flagged and the words don't xor to zero; two or more flagged, and two or more of
+// them are beyond mending, or none is and the mended words don't xor to zero.
 const PARITY: u32 = 20;
 
 const MENDED: u32 = 21;
@@ -115,8 +118,7 @@ fn resolve(line: &[u8], catch_words: &[u64; 9], bad: u32, heard: Heard, flagged:
     requires flagged { ⌜ flagged ≡ mask (isFlagged (now line) (now «catch_words»)) 9 ⌝ }
     ensures outcome { λ r. ⌜ r .outcome ≡ outcomeOf (now (line .entry)) (now («catch_words» .entry)) ⌝ }
     ensures passes { λ r. ⌜ r .passes ≡ passesOf (now (line .entry)) (now («catch_words» .entry)) ⌝ }
-    ensures words { λ r. ⌜ joined (λ k. cond (isFlagged (now (line .entry)) (now («catch_words» .entry)) k) (codeword (getD (r .words) k 0)) (chipAt (now (line .entry)) k)) 9
-        ≡ writtenBack (now (line .entry)) (now («catch_words» .entry)) ⌝ }
+    ensures words { λ r. ⌜ withWords (λ k. getD (r .words) k 0) (now (line .entry)) (now («catch_words» .entry)) ≡ writtenBack (now (line .entry)) (now («catch_words» .entry)) ⌝ }
 {
     let chips = u32::count_ones(flagged);
     if chips == 0 {
@@ -136,11 +138,42 @@ fn resolve(line: &[u8], catch_words: &[u64; 9], bad: u32, heard: Heard, flagged:
             words,
         };
     }
-    let words = third::pass(line, bad);
-    let mended = third::xor_all(words);
-    let outcome = must_cancel(mended, MENDED);
+    mend_flagged(line, catch_words, bad, flagged)
+}
+
+// Step 5, by how many of the flagged chips are beyond mending (document 02, Req 02). The catch-words are given for the contract alone.
+fn mend_flagged(line: &[u8], catch_words: &[u64; 9], bad: u32, flagged: u32) -> Found
+    requires sizes { ⌜ (length (now line) ≡ 81) × (length (now «catch_words») ≡ 9) ⌝ }
+    requires bad { ⌜ bad ≡ mask (unsound (now line)) 9 ⌝ }
+    requires flagged { ⌜ flagged ≡ mask (isFlagged (now line) (now «catch_words»)) 9 ⌝ }
+    requires several { ⌜ 1 < ones flagged ⌝ }
+    ensures outcome { λ r. ⌜ r .outcome ≡ outcomeOf (now (line .entry)) (now («catch_words» .entry)) ⌝ }
+    ensures passes { λ r. ⌜ r .passes ≡ passesOf (now (line .entry)) (now («catch_words» .entry)) ⌝ }
+    ensures words { λ r. ⌜ withWords (λ k. getD (r .words) k 0) (now (line .entry)) (now («catch_words» .entry)) ≡ writtenBack (now (line .entry)) (now («catch_words» .entry)) ⌝ }
+{
+    let told = third::pass(line, bad);
+    let words = told.words;
+    let parity = third::xor_all(words);
+    let beyond = flagged & told.beyond;
+    let count = u32::count_ones(beyond);
+    if count == 0 {
+        let outcome = must_cancel(parity, MENDED);
+        return Found {
+            outcome,
+            passes: 3,
+            words,
+        };
+    }
+    if count == 1 {
+        let rebuilt = third::rebuilt(words, parity, beyond);
+        return Found {
+            outcome: Outcome::Answered,
+            passes: 3,
+            words: rebuilt,
+        };
+    }
     Found {
-        outcome,
+        outcome: Outcome::Refused(MENDED),
         passes: 3,
         words,
     }

@@ -1,19 +1,23 @@
 -- Laws of how large the numbers are that are printed: a refusal has at most two decimal digits, the passes one, a mask three hexadecimal
 -- digits and the first word sixteen, so that `decimalText` and `hexText` print them whole.
 -- Assumes nothing.
-use mathlib.Core.Bool.{Bool, true, false, cond}
+use mathlib.Core.Path.{_≡_, sym, subst}
+use mathlib.Core.Logic.{⊎-elim}
+use mathlib.Core.Bool.{Bool, true, false}
 use mathlib.Core.List.{List, [], _∷_, _++_}
 use Prim.Native.Nat.{ℕ, zero, suc, _+_, _^_, _≤_, _<_}
 use native.Mathlib.Omega.{arith}
-use lib.Dec.{eqb, ltb, lit<}
+use lib.Dec.{ltb, lit<}
 use lib.ListN.{length, take}
 use lib.Seq.{length-take-le}
 use Rattle.code.specs.Lists.{Every}
-use Rattle.line.specs.Chips.{bit, mask, count, xorAll}
+use Rattle.line.specs.Chips.{bit, mask, count}
 use Rattle.line.specs.ChipLaws.{mask-lt}
 use Rattle.line.specs.Cells.{bytesFrom}
 use Rattle.line.specs.ByteLaws.{Bytes, number-lt, bytes-bytesFrom}
-use Rattle.line.specs.Visit.{passOne, passThree, isCandidate, isFlagged, isCollision, flaggedChips, mustCancel, outcomeBy, outcomeOf, passesOf, reportOf, refusalOf}
+use Rattle.line.specs.Visit.{isCandidate, isFlagged, isCollision, flaggedChips, outcomeOf, passesOf, reportOf, refusalOf}
+use Rattle.line.specs.VisitLaws.{outcome-ends}
+use Rattle.line.specs.declared.Outcome.{Outcome}
 use Rattle.line.specs.declared.Outcome.the-variants.{Answered, Refused}
 use Rattle.rank.specs.Refusals.{lineOut, bufferOut, chipOut, patternOut, notReady, memoryDiffers, registerDiffers, taskOut, refusedIf, firstOf, stateRefusals, writeRefusal, readRefusal, faultRefusal}
 use Rattle.rank.specs.Lines.{lineAt}
@@ -85,16 +89,12 @@ pub record Small (v : ReadResult) : Type 0 where
   pub flagged : v .flagged < 4096
   pub collisions : v .collisions < 4096
 
-cancel-lt : (t : Bool) (n : ℕ) → n < 100 → refusalOf (cond t Answered (Refused n)) < 100
+outcome-lt : (m cws : List ℕ) → refusalOf (outcomeOf m cws) < 100
 unfolding refusalOf
-cancel-lt true n h = lit< tt
-cancel-lt false n h = h
-
-outcome-lt : (n : ℕ) (m cws : List ℕ) → refusalOf (outcomeBy n m cws) < 100
-unfolding outcomeBy mustCancel refusalOf
-outcome-lt zero m cws = cancel-lt (eqb (xorAll (passOne m cws) 9) 0) 20 (lit< tt)
-outcome-lt (suc zero) m cws = lit< tt
-outcome-lt (suc (suc n)) m cws = cancel-lt (eqb (xorAll (passThree m cws) 9) 0) 21 (lit< tt)
+outcome-lt m cws = ⊎-elim (at Answered (lit< tt)) (⊎-elim (at (Refused 20) (lit< tt)) (at (Refused 21) (lit< tt))) (outcome-ends m cws)
+  where
+    at : (o : Outcome) → refusalOf o < 100 → outcomeOf m cws ≡ o → refusalOf (outcomeOf m cws) < 100
+    at o h e = subst (λ (x : Outcome). refusalOf x < 100) (sym e) h
 
 passes-lt : (t u : Bool) → 1 + bit t + bit u < 10
 passes-lt true true = lit< tt
@@ -106,10 +106,10 @@ three-digits : (p : ℕ → Bool) → mask p 9 < 4096
 three-digits p = let h = mask-lt p 9 in omega arith
 
 read-by : (n : ℕ) (r : Rank) (m : List ℕ) (task l : ℕ) (b : List ℕ) → n < 100 → Small (readBy n r m task l b .result)
-unfolding readBy readResult visitOf reportOf outcomeOf passesOf
+unfolding readBy readResult visitOf reportOf passesOf
 read-by zero r m task l b h =
     record {
-      refusal = outcome-lt (flaggedChips (lineAt m l) (r .«catch_words»)) (lineAt m l) (r .«catch_words»);
+      refusal = outcome-lt (lineAt m l) (r .«catch_words»);
       passes =
           passes-lt (ltb 0 (count (isCandidate (lineAt m l) (r .«catch_words»)) 9)) (ltb 1 (flaggedChips (lineAt m l) (r .«catch_words»)));
       flagged = three-digits (isFlagged (lineAt m l) (r .«catch_words»));

@@ -1,5 +1,6 @@
 // Trials at run time: the code inside a chip against document 01's marked examples and against a CRC-8 made another way, and visits and
 // calls on lines that were made with that CRC-8. Each line of output says what was tried, how many trials succeeded, and of how many.
+use code::Status;
 use libc::STDOUT_FILENO;
 use refusals::Call;
 
@@ -10,6 +11,7 @@ mod layout;
 mod refusals;
 mod results;
 mod states;
+mod statuses;
 mod tasks;
 mod visits;
 
@@ -25,8 +27,11 @@ enum Trial {
     Word,
     // Eight words of that sequence: their check bytes at once.
     EightWords,
-    // A codeword with one of its 72 bits inverted: its check byte, syndrome and codeword test, its position, and its word after mending.
+    // A codeword with one of its 72 bits inverted: its check byte, syndrome and codeword test, its position, its word after mending, and its
+    // status; and the status of the codeword itself.
     Damage,
+    // A syndrome: its position, the word after mending, and the status.
+    Syndrome,
     // A line laid and read back.
     Laid,
     // Visits to a line: with one bit inverted, with one bit of two chips inverted, with damage to two chips that can't be undone, with
@@ -37,6 +42,12 @@ enum Trial {
     RefusedParity,
     Collision,
     AllCollide,
+    // Visits to a line with chips beyond mending: one chip beside another that is mended, and beside two others; two chips; and one beside
+    // another that is mended to another word.
+    Beyond,
+    BeyondOfThree,
+    TwoBeyond,
+    BeyondWrong,
     // A call with every set of the conditions that it is refused for.
     Refused(Call),
     // The order of 14, 31, 1 and 2.
@@ -59,6 +70,9 @@ enum Trial {
     // Reads that repair: beside a collision, and three chips at once.
     MovedRepaired,
     ThreeRepaired,
+    // Chips beyond mending, in reads that repair and in patrols.
+    BeyondRead,
+    BeyondPatrol,
     // A repair total, and patrols over damaged lines: with one that is refused, and with two, one for each reason.
     Repairs,
     PatrolDamaged,
@@ -73,11 +87,13 @@ enum Trial {
 fn main() {
     report_code();
     report_visits();
+    report_beyond();
     report_refusals();
     report_large();
     report_calls();
     report_records();
     report_repairs();
+    report_beyond_repairs();
     report_tasks();
 }
 
@@ -104,6 +120,11 @@ fn report_code() {
         Trial::Damage,
         16 * 72,
     );
+    report(
+        b"statuses of the 256 syndromes, against the bitwise CRC-8",
+        Trial::Syndrome,
+        256,
+    );
 }
 
 fn report_visits() {
@@ -122,6 +143,29 @@ fn report_visits() {
     );
     report(b"collisions on each chip", Trial::Collision, 9);
     report(b"collisions on all nine", Trial::AllCollide, 16);
+}
+
+fn report_beyond() {
+    report(
+        b"one chip beyond mending and one mended, both repaired",
+        Trial::Beyond,
+        144,
+    );
+    report(
+        b"one chip beyond mending and two mended, all repaired",
+        Trial::BeyondOfThree,
+        144,
+    );
+    report(
+        b"two chips beyond mending, refused 21",
+        Trial::TwoBeyond,
+        288,
+    );
+    report(
+        b"outside the premise, one chip beyond mending and one mended to another word, answered with another line",
+        Trial::BeyondWrong,
+        144,
+    );
 }
 
 fn report_refusals() {
@@ -217,13 +261,26 @@ fn report_repairs() {
     );
     report(b"repair totals of each task", Trial::Repairs, 32);
     report(
-        b"patrols over damaged lines, one beyond repair",
+        b"patrols over damaged lines, one refused 21",
         Trial::PatrolDamaged,
         9,
     );
     report(
         b"patrols over lines refused 20 and 21",
         Trial::PatrolRefused,
+        9,
+    );
+}
+
+fn report_beyond_repairs() {
+    report(
+        b"one chip beyond mending and one mended, read and repaired",
+        Trial::BeyondRead,
+        144,
+    );
+    report(
+        b"patrols over lines with one and two chips beyond mending",
+        Trial::BeyondPatrol,
         9,
     );
 }
@@ -279,6 +336,7 @@ fn succeeds(trial: Trial, i: u64) -> bool {
         Trial::Word => agrees(word_of(i), (word_of(i) / 256 % 256) as u8),
         Trial::EightWords => eight_agree(i),
         Trial::Damage => mends(word_of(i / 72), i % 72),
+        Trial::Syndrome => statuses::agrees(i),
         Trial::Laid => visits::lays(),
         Trial::Rebuilt => visits::rebuilds(i),
         Trial::Mended => visits::mends(i),
@@ -286,6 +344,10 @@ fn succeeds(trial: Trial, i: u64) -> bool {
         Trial::RefusedParity => visits::refuses_parity(i),
         Trial::Collision => visits::collides(i),
         Trial::AllCollide => visits::all_collide(i),
+        Trial::Beyond => visits::repairs_beyond(i),
+        Trial::BeyondOfThree => visits::repairs_beyond_of_three(i),
+        Trial::TwoBeyond => visits::refuses_two_beyond(i),
+        Trial::BeyondWrong => visits::answers_wrong(i),
         Trial::Refused(call) => refusals::succeeds(call, i),
         Trial::Ordered => refusals::in_order(i),
         Trial::Large(first) => large::succeeds(first % 17 + i % 17),
@@ -300,6 +362,8 @@ fn succeeds(trial: Trial, i: u64) -> bool {
         Trial::Renewed => calls::renews(i),
         Trial::MovedRepaired => calls::moves_and_repairs(i),
         Trial::ThreeRepaired => calls::repairs_three(i),
+        Trial::BeyondRead => calls::reads_beyond(i),
+        Trial::BeyondPatrol => calls::patrols_beyond(i),
         Trial::Repairs => tasks::counts_repairs(i),
         Trial::PatrolDamaged => calls::patrols(i),
         Trial::PatrolRefused => calls::patrols_refused(i),
@@ -317,7 +381,12 @@ fn row_holds(i: u64) -> bool {
     code::check_byte(row.word) == row.check_byte
         && code::syndrome(row.word, row.given) == row.syndrome
         && code::position(row.syndrome) == row.position
-        && code::mend(row.word, row.given) == row.mended_word
+        && statuses::mends_to(
+            row.word,
+            row.given,
+            row.mended_word,
+            statuses::due(row.syndrome, row.position),
+        )
 }
 
 // The CRC-8 of the digits 1 to 9 in ASCII: the remainder of their nine bytes times x^8.
@@ -371,13 +440,16 @@ fn lane(word: u64) -> u64 {
     crc::remainder(word, 0) as u64
 }
 
-// Whether the codeword of a word with one bit inverted agrees with the bitwise CRC-8, and the bit is found and mended.
+// Whether the codeword of a word with one bit inverted agrees with the bitwise CRC-8, and the bit is found and mended; and the codeword
+// itself is sound.
 fn mends(word: u64, position: u64) -> bool {
+    let own = crc::remainder(word, 0);
     let damaged = word ^ word_bit(position);
-    let check = crc::remainder(word, 0) ^ check_bit(position);
+    let check = own ^ check_bit(position);
     agrees(damaged, check)
         && code::position(code::syndrome(damaged, check)) as u64 == position
-        && code::mend(damaged, check) == word
+        && statuses::mends_to(damaged, check, word, Status::Mended)
+        && statuses::mends_to(word, own, word, Status::Sound)
 }
 
 // The bit of the word at a position, and that of the check byte; none where the position is of the other.

@@ -1,8 +1,14 @@
 // Visits to one line. Its 81 bytes are made by `layout`. Trial i has a line of its own.
 use super::layout::CATCH_WORDS;
+use super::layout::bit_of;
 use super::layout::chip_bit;
+use super::layout::first_of;
 use super::layout::inverted;
 use super::layout::laid;
+use super::layout::other_word;
+use super::layout::second_of;
+use super::layout::third_of;
+use super::layout::with_beyond;
 use super::layout::with_parity;
 use super::layout::with_wide;
 use super::layout::words_of;
@@ -56,13 +62,13 @@ pub fn mends(i: u64) -> bool {
     )
 }
 
-// Whether a line is refused 21, and stays, where fault patterns leave one chip with 07h on its check byte, of which M is 1, and another
-// with one bit inverted. Trial i stands for one of the 72 ways to choose the two.
+// Whether a line is refused 21, and stays, where fault patterns leave one chip with 07h on its check byte, which is mended to 1, and
+// another with one bit inverted. Neither is beyond mending.
 pub fn refuses_mended(i: u64) -> bool {
-    let wide = i / 8 % 9;
-    let narrow = (wide + 1 + i % 8) % 9;
+    let wide = first_of(i);
+    let narrow = second_of(i);
     let line = laid(words_of(i));
-    let damaged = inverted(with_wide(line, wide), 72 * narrow);
+    let damaged = inverted(with_wide(line, wide), bit_of(narrow, 0));
     faults_leave(line, wide, narrow, damaged)
         && visit_leaves(
             damaged,
@@ -81,6 +87,71 @@ fn faults_leave(before: [u8; 81], wide: u64, narrow: u64, after: [u8; 81]) -> bo
         &[1, 0, 0, 0, 0, 0, 0, 0, 0],
     );
     same(&line, &after)
+}
+
+// Whether a line is answered as it was laid, where one chip is beyond mending, by its word or by its check byte, and another has one bit
+// inverted.
+pub fn repairs_beyond(i: u64) -> bool {
+    let beyond = first_of(i);
+    let narrow = second_of(i);
+    let line = laid(words_of(i));
+    visit_leaves(
+        inverted(with_beyond(line, beyond, i / 72), bit_of(narrow, i)),
+        CATCH_WORDS,
+        [0, 3, chip_bit(beyond) | chip_bit(narrow), 0],
+        line,
+    )
+}
+
+// The same with a bit of a third chip inverted.
+pub fn repairs_beyond_of_three(i: u64) -> bool {
+    let beyond = first_of(i);
+    let second = second_of(i);
+    let third = third_of(i);
+    let line = laid(words_of(i));
+    let two = inverted(with_beyond(line, beyond, i / 72), bit_of(second, i));
+    visit_leaves(
+        inverted(two, bit_of(third, i / 8)),
+        CATCH_WORDS,
+        [
+            0,
+            3,
+            chip_bit(beyond) | chip_bit(second) | chip_bit(third),
+            0,
+        ],
+        line,
+    )
+}
+
+// Whether a line is refused 21, and stays, where two chips are beyond mending, each by its word or by its check byte. Where both have the
+// same damage, the nine words xor to zero, and it is refused all the same.
+pub fn refuses_two_beyond(i: u64) -> bool {
+    let first = first_of(i);
+    let second = second_of(i);
+    let one = with_beyond(laid(words_of(i)), first, i / 72);
+    let damaged = with_beyond(one, second, i / 144);
+    visit_leaves(
+        damaged,
+        CATCH_WORDS,
+        [21, 3, chip_bit(first) | chip_bit(second), 0],
+        damaged,
+    )
+}
+
+// Whether a line is answered with another one, where one chip is beyond mending, by its word or by its check byte, and another has 07h on
+// its check byte, which is mended to 1: both chips then hold codewords of words with the lowest bit inverted. The premise of document 01
+// leaves this out, since both patterns have more than one bit.
+pub fn answers_wrong(i: u64) -> bool {
+    let beyond = first_of(i);
+    let wide = second_of(i);
+    let words = words_of(i);
+    let damaged = with_beyond(with_wide(laid(words), wide), beyond, i / 72);
+    visit_leaves(
+        damaged,
+        CATCH_WORDS,
+        [0, 3, chip_bit(beyond) | chip_bit(wide), 0],
+        laid(other_word(other_word(words, beyond), wide)),
+    )
 }
 
 // Whether a line of codewords that do not xor to zero is refused 20, and stays, where chip i has another word; and with a collision

@@ -16,6 +16,8 @@
 //! assert_eq!(visit.flagged, 1 << 5);
 //! assert_eq!(rank.repairs, [0, 0, 0, 1, 0, 0, 0, 0]);
 //! ```
+//!
+//! What the calls guarantee, and under which premise, is said in `include/rank.h`. Outside the premise an answered line may be wrong.
 
 pub mod ffi;
 
@@ -62,7 +64,7 @@ pub enum Refusal {
     Registers = 14,
     /// No chip is flagged and the words don't xor to zero.
     Parity = 20,
-    /// Two or more chips are flagged and the mended words don't xor to zero.
+    /// Two or more chips are flagged, and two or more of them are beyond mending, or none is and the words don't xor to zero.
     Mended = 21,
     /// Read and patrol: the task is not below 8.
     Task = 31,
@@ -112,7 +114,9 @@ impl fmt::Display for Refusal {
             Refusal::MemoryLength => "the memory is not 81 × N bytes",
             Refusal::Registers => "a register differs from its catch-word",
             Refusal::Parity => "no chip is flagged and the words don't xor to zero",
-            Refusal::Mended => "two or more chips are flagged and the mended words don't xor to zero",
+            Refusal::Mended => {
+                "two or more chips are flagged, and two or more of them are beyond mending, or none is and the words don't xor to zero"
+            }
             Refusal::Task => "the task is not below 8",
         };
         write!(f, "{}: {words}", self.number())
@@ -175,8 +179,10 @@ impl Rank {
         refused(called.refusal)
     }
 
-    /// Visits a line, repairs it and puts its 64 bytes in the buffer. The task, 0 to 7, is the firmware's number for who asks, and the
-    /// words repaired are added to its total alone; any other number is refused with 31. Refused with 12, 13, 14, 31, 1, 2, 20 or 21.
+    /// Visits a line, repairs it and puts its 64 bytes in the buffer. One flagged chip is rebuilt from the other eight; two or more are
+    /// mended by their own codes, and if one of them is beyond mending, it is rebuilt from the other eight then. The task, 0 to 7, is the
+    /// firmware's number for who asks, and the words repaired are added to its total alone; any other number is refused with 31. Refused
+    /// with 12, 13, 14, 31, 1, 2, 20 or 21.
     pub fn read(&mut self, memory: &mut [u8], task: u32, line: u32, buffer: &mut [u8]) -> Result<Visit, RefusedRead> {
         // SAFETY: as in `boot`.
         let read = unsafe { ffi::rank_read(*self, memory.as_mut_ptr(), memory.len(), task, line, buffer.as_mut_ptr(), buffer.len()) };

@@ -6,9 +6,10 @@ mod model;
 mod support;
 
 use lemtskavo::ffi::Rank;
-use model::code::{self, Cell};
+use model::code::{self, Cell, Status};
+use model::device;
 use model::plain::{weight, Line, Plain};
-use support::{lend, Call, Outcome, Random, Tally, Trace, FAR_TASKS};
+use support::{lend, record_of, told_before, Call, Guarded, Outcome, Random, Tally, Trace, FAR_TASKS, STEP_5};
 
 /// The step by which a colliding catch-word grows; used only to choose catch-words that meet data after moves.
 const STEP: u64 = 0x9E37_79B9_7F4A_7C15;
@@ -228,7 +229,11 @@ impl Maker {
     fn note(&mut self, line: usize, tally: &mut Tally) {
         let damage = &self.plain.lines[line];
         if damage.beyond_one_bit() == 1 && damage.damaged() > 1 {
-            tally.case("visit with many bits in one chip and one bit in others");
+            tally.case(if damage.one_wide_beyond_mending() {
+                "visit with many bits in one chip, beyond mending, and one bit in others"
+            } else {
+                "visit with many bits in one chip, mended as one, and one bit in others"
+            });
         }
         if std::mem::take(&mut self.strayed[line]) {
             tally.case("visit of a line that was outside the premise in between");
@@ -255,9 +260,11 @@ fn run(list: &[(Call, Answer)], end: &[u8], catch_words: [u64; 9], tally: &mut T
     assert_eq!(booted.refusal, 0);
     let mut rank = booted.rank;
     for (place, (call, answer)) in list.iter().enumerate() {
+        let told = told_before(call, memory.inside());
         let outcome = call.on_library(rank, &mut memory);
         tally.call(call.row(), outcome.refusal);
         assert_eq!(compared(call, &outcome), *answer, "call {place}: {call:?}\nwith {rank:?}");
+        tally.step_5(told, &outcome);
         count(call, &rank, &outcome, tally);
         rank = outcome.rank;
     }
@@ -318,13 +325,18 @@ fn lists_under_the_premise() {
         "read with a collision",
         "read with a collision and a flagged chip",
         "call that moved a catch-word",
-        "visit with many bits in one chip and one bit in others",
+        "visit with many bits in one chip, beyond mending, and one bit in others",
+        "visit with many bits in one chip, mended as one, and one bit in others",
         "visit of a line that was outside the premise in between",
         "call left out, its visit would break the premise",
         "visits after repairs for several tasks",
+        STEP_5[0],
+        STEP_5[1],
+        STEP_5[2],
     ] {
         tally.demand(case, 200);
     }
+    assert_eq!(tally.count(STEP_5[3]), 0, "under the premise one chip at most is beyond mending");
     tally.demand("read refused 31 of a line outside the premise", 10);
     for (row, refusals) in [(1, vec![1, 2]), (2, vec![1, 2, 21, 31]), (3, vec![1, 31]), (4, vec![3]), (5, vec![1, 3, 4])] {
         for refusal in refusals {
@@ -332,6 +344,71 @@ fn lists_under_the_premise() {
         }
     }
     assert_eq!(tally.refused(2, 20), 0, "under the premise no read is refused 20");
+}
+
+/// Makes the visits of a call one by one as reads on the library, each beside a read by document 01's step 5 without Req 02: if that
+/// answers, so does the library, and with the same in every byte and field. Gives the record and the memory after the visits.
+fn visit_beside_document_01(call: &Call, rank: Rank, memory: &Guarded<u8>, lines: &Plain, tally: &mut Tally) -> (Rank, Guarded<u8>) {
+    let (mut rank, mut memory) = (rank, memory.clone());
+    for line in visited(call, lines) {
+        let (task, line) = (call.task().unwrap(), line as u32);
+        let mut bytes = [0x5A; 64];
+        let mut expected = memory.inside().to_vec();
+        let former = device::read_without_req_02(record_of(rank), &mut expected, task, line, &mut bytes);
+        let (read, buffer) = support::read(rank, &mut memory, task, line, &[0x5A; 64]);
+        tally.call(2, read.refusal);
+        match (former.refusal, read.refusal) {
+            (0, now) => {
+                assert_eq!(now, 0, "document 01 answers line {line} without Req 02: {call:?}\nwith {rank:?}");
+                assert_eq!((read.passes, read.flagged, read.collisions), (former.passes, former.flagged, former.collisions));
+                assert_eq!((record_of(read.rank), buffer.as_slice()), (former.record, bytes.as_slice()));
+                assert!(memory.inside() == expected, "{call:?}\nwith {rank:?}: the memories differ");
+                tally.case(if read.passes == 3 { "answered alike after pass three" } else { "answered alike before pass three" });
+            }
+            (21, 0) => tally.case("refused 21 by document 01 without Req 02, answered now"),
+            (21, 21) => tally.case("refused 21 by both"),
+            refusals => panic!("under the premise line {line} is refused as {refusals:?}: {call:?}\nwith {rank:?}"),
+        }
+        rank = read.rank;
+    }
+    (rank, memory)
+}
+
+/// Under the premise Req 02 takes no answer away and changes none: it only answers more.
+#[test]
+fn what_document_01_answers_is_answered_alike() {
+    let mut tally = Tally::default();
+    let mut trace = Trace { seed: support::seed(), list: 0 };
+    for list in 0..1_200 {
+        trace.list = list;
+        let mut random = Random::new(trace.seed, 14, list);
+        let (lines, calls) = (1 + random.below(4), random.below(81));
+        let mut maker = Maker::new(random, lines);
+        let list: Vec<Call> = (0..calls).map(|_| maker.next(&mut tally).0).collect();
+        for catch_words in boot_catch_words(&mut maker.random, &maker.palette) {
+            let mut memory = lend(&vec![0xEE; 81 * lines]);
+            let mut rank = support::boot(&mut memory, &catch_words).rank;
+            for call in &list {
+                let after = visit_beside_document_01(call, rank, &memory, &maker.plain, &mut tally);
+                let outcome = call.on_library(rank, &mut memory);
+                tally.call(call.row(), outcome.refusal);
+                if call.task().is_some() {
+                    assert_eq!(outcome.rank, after.0, "{call:?}: another record than after its visits one by one");
+                    assert!(memory.inside() == after.1.inside(), "{call:?}: another memory than after its visits one by one");
+                }
+                rank = outcome.rank;
+            }
+        }
+    }
+    tally.print("beside document 01 without Req 02");
+    for case in [
+        "answered alike before pass three",
+        "answered alike after pass three",
+        "refused 21 by document 01 without Req 02, answered now",
+        "refused 21 by both",
+    ] {
+        tally.demand(case, 1_000);
+    }
 }
 
 /// A call that is under the premise by the way its list is made, with the plain memory's answer.
@@ -362,6 +439,13 @@ fn lists_on_wide_ranks() {
                 calls.push(Call::Read { task: round, line: last, buffer: vec![1; 64] });
                 calls.push(Call::Read { task: round, line: last + 1, buffer: vec![1; 64] });
                 calls.push(Call::Read { task: u32::MAX - round, line: last + 1, buffer: vec![1; 63] });
+                // Many bits beside one: beyond mending, and mended as one.
+                for wide in [code::cell(0x300, 0), code::cell(0, 0x07)] {
+                    calls.push(Call::Fault { line: last, chip: 4, pattern: wide.to_vec() });
+                    calls.push(Call::Fault { line: last, chip: 5, pattern: one_bit(maker.random.below(72)).to_vec() });
+                    calls.push(Call::Read { task: round, line: last, buffer: vec![1; 64] });
+                }
+                calls.push(Call::Write { line: last, data: maker.palette_line() });
                 calls.push(Call::Fault { line: last, chip: 3, pattern: vec![0xFF; 9] });
                 calls.push(Call::Patrol { task: round + 256, first: last, budget: u32::MAX });
                 calls.push(Call::Patrol { task: 7 - round, first: last, budget: u32::MAX });
@@ -378,12 +462,23 @@ fn lists_on_wide_ranks() {
     }
     tally.print("lists on wide ranks");
     assert!(tally.calls() >= 5_000);
-    tally.demand("answered read, two or more flagged", 100);
-    tally.demand("read refused 21", 50);
+    for case in STEP_5.into_iter().take(3) {
+        tally.demand(case, 100);
+    }
     tally.demand("call that moved a catch-word", 100);
 }
 
-/// Each position of the code in each chip: alone, beside one bit in another chip, and beside many bits.
+/// A random pattern whose chip tells this.
+fn pattern_with(status: Status, random: &mut Random) -> Cell {
+    loop {
+        let pattern: Cell = random.bytes(9).try_into().unwrap();
+        if code::status(&pattern) == status {
+            return pattern;
+        }
+    }
+}
+
+/// Each position of the code in each chip: alone, beside one bit in another chip, and beside many bits of both kinds.
 #[test]
 fn every_position_at_the_edge_of_the_premise() {
     let mut tally = Tally::default();
@@ -393,12 +488,8 @@ fn every_position_at_the_edge_of_the_premise() {
         let mut list = Vec::new();
         for position in 0..72 {
             let other = (chip + 1 + random.below(8) as u32) % 9;
-            let wide = loop {
-                let pattern: Cell = random.bytes(9).try_into().unwrap();
-                if !code::is_codeword(&pattern) {
-                    break pattern;
-                }
-            };
+            let beyond = pattern_with(Status::Beyond, &mut random);
+            let mended = pattern_with(Status::Mended, &mut random);
             let one = |chip, pattern: Cell| Call::Fault { line: 0, chip, pattern: pattern.to_vec() };
             let read = Call::Read { task: position as u32 % 8, line: 0, buffer: vec![0; 64] };
             let calls = [
@@ -409,7 +500,10 @@ fn every_position_at_the_edge_of_the_premise() {
                 one(other, one_bit(71 - position)),
                 read.clone(),
                 one(chip, one_bit(position)),
-                one(other, wide),
+                one(other, beyond),
+                read.clone(),
+                one(chip, one_bit(position)),
+                one(other, mended),
                 read.clone(),
                 one(chip, one_bit(position)),
                 read,
@@ -420,11 +514,12 @@ fn every_position_at_the_edge_of_the_premise() {
         run(&list, &plain.memory(), [0; 9], &mut tally);
     }
     tally.print("every position");
-    tally.demand("answered read, two or more flagged", 1_000);
-    tally.demand("read refused 21", 1_000);
+    for case in STEP_5.into_iter().take(3) {
+        tally.demand(case, 1_000);
+    }
 }
 
-/// One bit in each chip of every set of chips; then many bits in one of them, within the check byte or not.
+/// One bit in each chip of every set of chips; then many bits in one of them: beyond mending in check byte or word, or mended as one.
 #[test]
 fn every_set_of_damaged_chips() {
     let mut tally = Tally::default();
@@ -432,8 +527,9 @@ fn every_set_of_damaged_chips() {
     let mut plain = Plain::boot(1);
     let mut list = Vec::new();
     for set in 0..1u32 << 9 {
-        // 03h is the syndrome of no position, so that mending leaves its word whole; the other pattern reaches the word.
-        for wide in [None, Some(code::cell(0, 0x03)), Some(code::cell(0x30, 0))] {
+        // 03h is the syndrome of no position, as is that of two bits in the word; 07h is that of the word's lowest bit, which mending then
+        // inverts.
+        for wide in [None, Some(code::cell(0, 0x03)), Some(code::cell(0x30, 0)), Some(code::cell(0, 0x07))] {
             list.push(under_premise(Call::Write { line: 0, data: random.bytes(64) }, &mut plain));
             for chip in (0..9).filter(|chip| set >> chip & 1 == 1) {
                 let pattern = one_bit(random.below(72)).to_vec();
@@ -450,6 +546,6 @@ fn every_set_of_damaged_chips() {
     let end = plain.memory();
     run(&list, &end, std::array::from_fn(|_| random.word()), &mut tally);
     tally.print("every set of damaged chips");
-    // Ten sets have fewer than two chips; the others answer twice of three times.
-    assert_eq!((tally.refused(2, 0), tally.refused(2, 21)), (10 * 3 + 502 * 2, 502));
+    // Ten sets have fewer than two chips; the others answer three times of four.
+    assert_eq!((tally.refused(2, 0), tally.refused(2, 21)), (10 * 4 + 502 * 3, 502));
 }

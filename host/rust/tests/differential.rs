@@ -3,9 +3,9 @@ mod model;
 mod support;
 
 use lemtskavo::ffi::Rank;
-use model::code;
+use model::code::{self, Status};
 use model::device::{self, Record};
-use support::{lend, Call, Guarded, Outcome, Random, Tally, Trace, CALLS, FAR_TASKS, POSSIBLE};
+use support::{lend, rank_of, record_of, told_before, Call, Guarded, Outcome, Random, Tally, Trace, CALLS, FAR_TASKS, POSSIBLE, STEP_5};
 
 const STEP: u64 = Record::STEP;
 
@@ -39,20 +39,6 @@ const FAR_CHIPS: [u32; 14] = [9, 10, 15, 16, 17, 31, 32, 255, 256, 264, 4_096, 6
 
 /// Lengths over 130; some equal 64 or 9 modulo 256, 4,096 or 65,536.
 const LARGE_LENGTHS: [usize; 9] = [255, 256, 265, 320, 4_105, 4_160, 65_536, 65_545, 65_600];
-
-fn record_of(rank: Rank) -> Record {
-    Record { lines: rank.lines, enable: rank.enable, catch_words: rank.catch_words, registers: rank.registers, totals: rank.repairs }
-}
-
-fn rank_of(record: Record) -> Rank {
-    Rank {
-        lines: record.lines,
-        enable: record.enable,
-        catch_words: record.catch_words,
-        registers: record.registers,
-        repairs: record.totals,
-    }
-}
 
 /// Makes a call on the model.
 fn on_model(call: &Call, rank: Rank, memory: &mut [u8]) -> Outcome {
@@ -109,10 +95,12 @@ impl Twin {
     /// Makes one call on both and compares all that comes back and all that is lent.
     fn call(&mut self, call: &Call, tally: &mut Tally) -> Outcome {
         let given = self.rank;
+        let told = told_before(call, &self.model);
         let outcome = call.on_library(given, &mut self.library);
         let expected = on_model(call, given, &mut self.model);
         tally.call(call.row(), outcome.refusal);
         assert_eq!(outcome, expected, "{call:?}\nwith {given:?}");
+        tally.step_5(told, &outcome);
         assert!(self.library.inside() == self.model, "{call:?}\nwith {given:?}: the memories differ");
         self.rank = outcome.rank;
         outcome
@@ -140,6 +128,13 @@ impl Twin {
 
     fn fault(&mut self, line: u32, chip: u32, pattern: &[u8], tally: &mut Tally) -> u32 {
         self.call(&Call::Fault { line, chip, pattern: pattern.to_vec() }, tally).refusal
+    }
+
+    /// The refusal that a read would have by document 01's step 5, without Req 02; nothing for other calls.
+    fn without_req_02(&self, call: &Call) -> Option<u32> {
+        let Call::Read { task, line, buffer } = call else { return None };
+        let mut memory = self.model.clone();
+        Some(device::read_without_req_02(record_of(self.rank), &mut memory, *task, *line, &mut buffer.clone()).refusal)
     }
 
     /// Gives both another memory.
@@ -298,7 +293,7 @@ impl List {
         if length != 9 {
             return self.random.bytes(length);
         }
-        let bits = match self.random.below(16) {
+        let bits = match self.random.below(17) {
             0 => 0,
             1..=6 => 1,
             7 | 8 => 2,
@@ -309,7 +304,7 @@ impl List {
                 let word = if self.random.chance(50) { self.random.pick(&self.palette) } else { 1 << self.random.below(64) };
                 return code::codeword(word).to_vec();
             }
-            13 => return code::cell(0, self.random.word() as u8).to_vec(),
+            13 | 14 => return code::cell(0, self.random.word() as u8).to_vec(),
             _ => return self.lead(line, chip),
         };
         let mut pattern = vec![0; 9];
@@ -392,8 +387,14 @@ impl List {
             return;
         }
         let before = self.twin.rank;
+        let without_req_02 = self.twin.without_req_02(&call);
         let outcome = self.twin.call(&call, tally);
         note_far_task(&call, before.lines, outcome.refusal, tally);
+        match (without_req_02, outcome.refusal) {
+            (Some(21), 0) => tally.case("answered read that document 01 refuses 21 without Req 02"),
+            (Some(0), 21) => tally.case("read refused 21 that document 01 answers without Req 02"),
+            _ => {}
+        }
         self.note(&call, &before, &outcome, tally);
     }
 
@@ -535,6 +536,8 @@ fn random_lists_agree() {
         "refused 20 with a collision",
         "refused 21 with a collision",
         "patrol with refused lines",
+        "answered read that document 01 refuses 21 without Req 02",
+        "read refused 21 that document 01 answers without Req 02",
         "repair total reaches 4,294,967,295",
         "repair at a total of 4,294,967,295",
         "repair counted beside a total of 4,294,967,295",
@@ -546,6 +549,9 @@ fn random_lists_agree() {
         "refused 31 with a wrong line and a wrong buffer",
     ] {
         tally.demand(case, 100);
+    }
+    for case in STEP_5 {
+        tally.demand(case, 500);
     }
 }
 
@@ -582,10 +588,13 @@ fn the_code_has_the_examples_of_document_01() {
         assert_eq!(usize::from(code::position(code::syndrome(&cell))), position);
     }
     assert_eq!((0..=255).filter(|syndrome| code::position(*syndrome) != code::NO_POSITION).count(), 72);
+    // A check byte over word 0 is its own syndrome.
+    let count = |status| (0..=255).filter(|check| code::status(&code::cell(0, *check)) == status).count();
+    assert_eq!([Status::Sound, Status::Mended, Status::Beyond].map(count), [1, 72, 183]);
     tally.print("examples of the code");
 }
 
-/// Each one-bit pattern is mended and each two-bit pattern is left, for each chip beside a second flagged one.
+/// Beside one bit in another chip, each one-bit pattern is mended, and each two-bit pattern is beyond mending and rebuilt.
 #[test]
 fn every_pattern_of_one_and_two_bits() {
     let mut tally = Tally::default();
@@ -611,15 +620,76 @@ fn every_pattern_of_one_and_two_bits() {
             let alone = twin.clone().read(0, &mut tally);
             assert_eq!((alone.refusal, alone.counts), (0, [2, 1 << chip, 0]));
             assert_eq!(alone.buffer, data);
-            twin.fault(0, (chip + 4) % 9, &one_bit(low), &mut tally);
-            // Two bits of the check byte leave the word whole.
-            let refusal = if high < 8 { 0 } else { 21 };
-            assert_eq!(twin.read(0, &mut tally).refusal, refusal);
-            twin.write(0, &data, &mut tally);
+            let other = (chip + 4) % 9;
+            twin.fault(0, other, &one_bit(low), &mut tally);
+            let read = twin.read(0, &mut tally);
+            assert_eq!((read.refusal, read.counts), (0, [3, 1 << chip | 1 << other, 0]));
+            assert_eq!(read.buffer, data);
         }
     }
-    assert!(tally.refused(2, 21) >= 2_000 && tally.refused(2, 0) >= 3_000);
+    assert!(twin.clone().read(0, &mut tally).counts == [1, 0, 0] && tally.refused(2, 21) == 0);
     tally.print("one and two bits");
+}
+
+/// Beside one bit in another chip, a three-bit pattern is beyond mending and rebuilt, or its chip inverts another bit and the line is lost.
+#[test]
+fn every_pattern_of_three_bits() {
+    let mut tally = Tally::default();
+    let mut random = Random::new(support::seed(), 8, 0);
+    let mut twin = Twin::lines(1, std::array::from_fn(|_| random.word()), &mut tally);
+    let data = random.bytes(64);
+    twin.write(0, &data, &mut tally);
+    for low in 0..70 {
+        for middle in low + 1..71 {
+            for high in middle + 1..72 {
+                let chip = random.below(9) as u32;
+                let other = (chip + 1 + random.below(8) as u32) % 9;
+                let bits = 1u128 << low | 1 << middle | 1 << high;
+                let pattern: code::Cell = bits.to_be_bytes()[7..].try_into().unwrap();
+                twin.fault(0, chip, &pattern, &mut tally);
+                twin.fault(0, other, &one_bit(random.below(72)), &mut tally);
+                let read = twin.read(0, &mut tally);
+                assert_eq!(read.counts, [3, 1 << chip | 1 << other, 0]);
+                if code::status(&pattern) == Status::Beyond {
+                    assert_eq!((read.refusal, &read.buffer), (0, &data));
+                } else {
+                    assert_eq!((read.refusal, &read.buffer), (21, &vec![0x5A; 64]));
+                    twin.write(0, &data, &mut tally);
+                }
+            }
+        }
+    }
+    assert_eq!(tally.refused(2, 0) + tally.refused(2, 21), 59_640);
+    assert!(tally.refused(2, 0) >= 10_000 && tally.refused(2, 21) >= 10_000);
+    tally.print("three bits");
+}
+
+/// Step 5 for two flagged chips with every pair of syndromes, most of them outside the premise. A pattern in the check byte alone is its
+/// own syndrome.
+#[test]
+fn every_pair_of_syndromes() {
+    let mut tally = Tally::default();
+    let mut random = Random::new(support::seed(), 9, 0);
+    let mut twin = Twin::lines(1, std::array::from_fn(|_| random.word()), &mut tally);
+    for one in 1..=255u8 {
+        let data = random.bytes(64);
+        for other in 1..=255u8 {
+            twin.write(0, &data, &mut tally);
+            let chip = random.below(9) as u32;
+            let next = (chip + 1 + random.below(8) as u32) % 9;
+            twin.fault(0, chip, &code::cell(0, one), &mut tally);
+            twin.fault(0, next, &code::cell(0, other), &mut tally);
+            let read = twin.read(0, &mut tally);
+            let damage = [code::cell(0, one), code::cell(0, other)];
+            let beyond = damage.iter().filter(|pattern| code::status(pattern) == Status::Beyond).count();
+            let refused = beyond == 2 || beyond == 0 && code::mended(&damage[0]) != code::mended(&damage[1]);
+            assert_eq!((read.refusal, read.counts), (if refused { 21 } else { 0 }, [3, 1 << chip | 1 << next, 0]));
+        }
+    }
+    tally.print("pairs of syndromes");
+    // Eight of the 72 positions are in the check byte; two of the other 64 cancel only if they are the same.
+    let reached = STEP_5.map(|case| tally.count(case));
+    assert_eq!(reached, [8 * 8 + 64, 72 * 72 - 8 * 8 - 64, 2 * 72 * 183, 183 * 183]);
 }
 
 #[test]
@@ -751,9 +821,9 @@ fn refusals_keep_their_order() {
     const ORDER: [u32; 8] = [12, 13, 14, 31, 1, 2, 3, 4];
     let mut tally = Tally::default();
     let mut twin = Twin::lines(4, [5; 9], &mut tally);
-    // Line 1 leads to 20, line 2 to 21.
+    // Line 1 leads to 20, line 2 to 21: by check 07h its chip inverts a bit of its word that is right.
     twin.fault(1, 0, &code::codeword(1), &mut tally);
-    twin.fault(2, 0, &[0xFF; 9], &mut tally);
+    twin.fault(2, 0, &code::cell(0, 0x07), &mut tally);
     twin.fault(2, 1, &one_bit(9), &mut tally);
     for set in 0..1u32 << ORDER.len() {
         for variant in 0..12 {
@@ -835,14 +905,15 @@ fn catch_words_equal_to_words_held() {
     tally.print("catch-words met");
 }
 
-/// Reads with none, one, two and eight other chips flagged.
+/// Reads with none, one, two and eight other chips flagged; of the eight one is beyond mending.
 fn each_visit_moves(twin: &mut Twin, chip: usize, data: &[Vec<u8>], tally: &mut Tally) {
     for (line, others) in [0, 1, 2, 8].into_iter().enumerate() {
         let mut flagged = 0;
-        for other in 0..others {
-            let other = (chip + 1 + other) as u32 % 9;
+        for place in 0..others {
+            let other = (chip + 1 + place) as u32 % 9;
             flagged |= 1 << other;
-            twin.fault(line as u32, other, &one_bit(5 * other as usize), tally);
+            let pattern = if place == 7 { vec![0xFF; 9] } else { one_bit(5 * other as usize) };
+            twin.fault(line as u32, other, &pattern, tally);
         }
         let before = twin.rank;
         let read = twin.read(line as u32, tally);
@@ -865,12 +936,15 @@ fn refused_visits_move_nothing(twin: &Twin, chip: usize, tally: &mut Tally) {
     assert_eq!((read.refusal, read.counts, read.rank), (20, [2, 0, 1 << chip], twin.rank));
     assert_eq!(read.buffer, [0x5A; 64]);
 
-    let mut beyond = twin.clone();
-    beyond.fault(0, one, &[0xFF; 9], tally);
-    beyond.fault(0, two, &one_bit(0), tally);
-    let read = beyond.read(0, tally);
-    assert_eq!((read.refusal, read.counts, read.rank), (21, [3, 1 << one | 1 << two, 1 << chip], twin.rank));
-    assert_eq!(read.buffer, [0x5A; 64]);
+    // Words that don't xor to zero though each is mended, and two chips beyond mending.
+    for (first, second) in [(code::cell(0, 0x07), code::cell(0, 0x01)), ([0xFF; 9], code::cell(0, 0x03))] {
+        let mut lost = twin.clone();
+        lost.fault(0, one, &first, tally);
+        lost.fault(0, two, &second, tally);
+        let read = lost.read(0, tally);
+        assert_eq!((read.refusal, read.counts, read.rank), (21, [3, 1 << one | 1 << two, 1 << chip], twin.rank));
+        assert_eq!(read.buffer, [0x5A; 64]);
+    }
 }
 
 /// A word that is the complement of the catch-word: no candidate while it is whole, flagged when it is not.
@@ -930,8 +1004,11 @@ fn each_repair_total_stays_at_its_end() {
         let mut twin = Twin::lines(3, [0xABCD; 9], &mut tally);
         for line in 0..3 {
             twin.write(line, &data, &mut tally);
+            // In line 1 the last of them is beyond mending, and counts as the others do.
             for chip in 0..flagged {
-                twin.fault(line, chip, &one_bit(random.below(72)), &mut tally);
+                let wide = line == 1 && chip + 1 == flagged;
+                let pattern = if wide { vec![0xFF; 9] } else { one_bit(random.below(72)) };
+                twin.fault(line, chip, &pattern, &mut tally);
             }
         }
         for task in 0..8 {
@@ -1029,10 +1106,13 @@ fn a_rank_of_4097_lines() {
     assert_eq!(twin.read(4_097, &mut tally).refusal, 1);
     assert_eq!(twin.patrol(4_096, 2, &mut tally).counts, [1, 0, 0]);
     assert_eq!(twin.patrol(0, u32::MAX, &mut tally).counts, [4_097, 0, 0]);
-    lists_on(4_097, 60, 60, &mut tally);
+    lists_on(4_097, 120, 60, &mut tally);
     tally.print("4,097 lines");
     for case in ["answered read, one flagged", "answered read, collision in a data chip", "damage on a line repaired before"] {
         tally.demand(case, 50);
+    }
+    for case in STEP_5 {
+        tally.demand(case, 5);
     }
 }
 

@@ -1,9 +1,11 @@
 //! Repairs by task (document 02, Req 01), observed on the static library alone: what the eight totals add to, and that which of the eight
-//! is named changes totals and nothing else. There is no premise: damage is of any kind, codewords and many chips among it.
+//! is named changes totals and nothing else. There is no premise: damage is of any kind, codewords and many chips among it. The model
+//! only tells which cases are reached.
+mod model;
 mod support;
 
 use lemtskavo::ffi::Rank;
-use support::{lend, Call, Guarded, Outcome, Random, Tally, Trace, FAR_TASKS};
+use support::{lend, told_before, Call, Guarded, Outcome, Random, Tally, Trace, FAR_TASKS, STEP_5};
 
 /// Bytes that lines are filled with; eight of one byte are a catch-word too, so that they meet.
 const FILLERS: [u8; 4] = [0x00, 0x11, 0xEE, 0xFF];
@@ -66,8 +68,10 @@ impl Booted {
     }
 
     fn call(&mut self, call: &Call, tally: &mut Tally) -> Outcome {
+        let told = told_before(call, self.memory.inside());
         let outcome = call.on_library(self.rank, &mut self.memory);
         tally.call(call.row(), outcome.refusal);
+        tally.step_5(told, &outcome);
         self.rank = outcome.rank;
         outcome
     }
@@ -134,6 +138,9 @@ fn the_totals_add_to_all_words_rewritten_since_boot() {
     }
     tally.print("totals from boot");
     tally.demand("repair counted", 10_000);
+    for case in STEP_5 {
+        tally.demand(case, 500);
+    }
     assert!([20, 21, 31].into_iter().all(|refusal| tally.refused(2, refusal) >= 100));
     assert!(tally.refused(3, 31) >= 100);
 }
@@ -158,7 +165,10 @@ fn a_total_that_has_stopped_stays_and_the_others_are_exact() {
         "repair that stops a total",
         "repair counted beside a total that has stopped",
         "list with a sum over 32 bits",
-    ] {
+    ]
+    .into_iter()
+    .chain(STEP_5)
+    {
         tally.demand(case, 500);
     }
 }
@@ -200,6 +210,9 @@ fn which_task_is_named_changes_totals_alone() {
     }
     tally.print("tasks renamed");
     tally.demand("repair for different tasks", 10_000);
+    for case in STEP_5 {
+        tally.demand(case, 500);
+    }
 }
 
 fn without_totals(outcome: Outcome) -> Outcome {

@@ -205,14 +205,30 @@ fn a_refused_read_carries_its_visit() {
     rank.renew(4, CATCH_WORD).unwrap();
     assert_eq!(rank, given);
 
-    rank.write(&mut memory, 1, &[0x33; 64]).unwrap();
-    rank.fault(&mut memory, 1, 0, &[0xFF; 9]).unwrap();
-    rank.fault(&mut memory, 1, 8, &pattern("000000000000000001")).unwrap();
-    let visit = Visit { passes: 3, flagged: 0x101, collisions: 0 };
-    let refused = rank.read(&mut memory, TASK, 1, &mut buffer).unwrap_err();
-    assert_eq!(refused, RefusedRead { refusal: Refusal::Mended, visit });
-    assert_eq!(refused.to_string(), Refusal::Mended.to_string());
-    assert_eq!((rank, buffer), (given, [0xA5; 64]));
+    // Chip 0 inverts a bit of its word that is right; then chips 0 and 8 are both beyond mending.
+    for (zero, eight) in [("000000000000000007", "000000000000000001"), ("ffffffffffffffffff", "000000000000000003")] {
+        rank.write(&mut memory, 1, &[0x33; 64]).unwrap();
+        rank.fault(&mut memory, 1, 0, &pattern(zero)).unwrap();
+        rank.fault(&mut memory, 1, 8, &pattern(eight)).unwrap();
+        let visit = Visit { passes: 3, flagged: 0x101, collisions: 0 };
+        let refused = rank.read(&mut memory, TASK, 1, &mut buffer).unwrap_err();
+        assert_eq!(refused, RefusedRead { refusal: Refusal::Mended, visit });
+        assert_eq!(refused.to_string(), Refusal::Mended.to_string());
+        assert_eq!((rank, buffer), (given, [0xA5; 64]));
+    }
+}
+
+#[test]
+fn one_chip_beyond_mending_beside_one_bit_is_answered() {
+    let (mut rank, mut memory) = boot(1);
+    rank.write(&mut memory, 0, &[0x44; 64]).unwrap();
+    let written = memory.clone();
+    rank.fault(&mut memory, 0, 0, &[0xFF; 9]).unwrap();
+    rank.fault(&mut memory, 0, 8, &pattern("000000000000000001")).unwrap();
+    let mut buffer = [0xA5; 64];
+    assert_eq!(rank.read(&mut memory, TASK, 0, &mut buffer), Ok(Visit { passes: 3, flagged: 0x101, collisions: 0 }));
+    assert_eq!((buffer, memory), ([0x44; 64], written));
+    assert_eq!(rank.repairs, [2, 0, 0, 0, 0, 0, 0, 0]);
 }
 
 #[test]
@@ -222,8 +238,9 @@ fn a_patrol_goes_on_after_a_refused_line() {
     rank.fault(&mut memory, 2, 7, &[0xFF; 9]).unwrap();
     rank.fault(&mut memory, 3, 0, &pattern("000000000000000001")).unwrap();
     rank.fault(&mut memory, 3, 8, &pattern("800000000000000000")).unwrap();
-    assert_eq!(rank.patrol(&mut memory, TASK, 0, u32::MAX), Ok(Patrol { visited: 4, refused: 1, rewritten: 3 }));
-    assert_eq!(rank.repairs, [3, 0, 0, 0, 0, 0, 0, 0]);
+    rank.fault(&mut memory, 3, 4, &pattern("000000000000030000")).unwrap();
+    assert_eq!(rank.patrol(&mut memory, TASK, 0, u32::MAX), Ok(Patrol { visited: 4, refused: 1, rewritten: 4 }));
+    assert_eq!(rank.repairs, [4, 0, 0, 0, 0, 0, 0, 0]);
     assert_eq!(rank.patrol(&mut memory, TASK, 2, 9), Ok(Patrol { visited: 2, refused: 0, rewritten: 0 }));
 }
 

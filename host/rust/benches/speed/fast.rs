@@ -280,24 +280,37 @@ fn visit(line: &mut Line, catch_words: &[u64; 9], scan: Scan) -> Visit {
         let passes = if collisions == 0 { 1 } else { 2 };
         return seen(if sum == 0 { 0 } else { 20 }, passes);
     }
-    if flagged & (flagged - 1) == 0 {
-        let chip = flagged.trailing_zeros() as usize;
+    // A chip is rebuilt by the xor of the nine words and the check byte of that xor.
+    let rebuild = |line: &mut Line, chip: usize, sum: u64, sum_asks: u8| {
         set_word(line, chip, word(line, chip) ^ sum);
         line[9 * chip + 8] ^= syndrome(chip) ^ sum_asks;
+    };
+    if flagged & (flagged - 1) == 0 {
+        rebuild(line, flagged.trailing_zeros() as usize, sum, sum_asks);
         return seen(0, 2);
     }
-    let mut left = sum;
+    // What mending changes, and what it leaves of the xor and of its check byte. A chip beyond mending sends its word as it is.
+    let mut changes = [0; 9];
+    let (mut left, mut left_asks, mut beyond) = (sum, sum_asks, 0);
     for chip in chips(flagged) {
-        left ^= MENDING[syndrome(chip) as usize];
+        let entry = MENDING[syndrome(chip) as usize];
+        let is_beyond = entry == BEYOND;
+        let change = if is_beyond { 0 } else { entry };
+        beyond |= u32::from(is_beyond) << chip;
+        changes[chip] = change;
+        left ^= change;
+        left_asks ^= if change == 0 { 0 } else { syndrome(chip) };
     }
-    if left != 0 {
+    if beyond & beyond.wrapping_sub(1) != 0 || beyond == 0 && left != 0 {
         return seen(21, 3);
     }
-    for chip in chips(flagged) {
-        let change = MENDING[syndrome(chip) as usize];
-        set_word(line, chip, word(line, chip) ^ change);
+    for chip in chips(flagged & !beyond) {
+        set_word(line, chip, word(line, chip) ^ changes[chip]);
         // With a bit of the word inverted the check byte is right; otherwise it is what makes the syndrome zero.
-        line[9 * chip + 8] ^= if change == 0 { syndrome(chip) } else { 0 };
+        line[9 * chip + 8] ^= if changes[chip] == 0 { syndrome(chip) } else { 0 };
+    }
+    if beyond != 0 {
+        rebuild(line, beyond.trailing_zeros() as usize, left, left_asks);
     }
     seen(0, 3)
 }
@@ -454,20 +467,25 @@ fn check_byte(word: u64) -> u8 {
     checks(quarters(halves(Two(word, 0), Two(0, 0)), Two(0, 0))).0 as u8
 }
 
-/// By syndrome: the change to the word that mending makes, zero where it makes none.
+/// By syndrome: the change to the word that mending makes, zero where it makes none, or `BEYOND`.
 static MENDING: [u64; 256] = mending();
 
+/// The entry of a syndrome that no position has. Mending inverts one bit, so this is no change that it makes.
+const BEYOND: u64 = u64::MAX;
+
 const fn mending() -> [u64; 256] {
-    let mut changes = [0; 256];
-    let mut syndrome: usize = 7;
-    let mut bit = 0;
-    while bit < 64 {
-        changes[syndrome] = (1u64 << bit).swap_bytes();
+    let mut changes = [BEYOND; 256];
+    changes[0] = 0;
+    let mut syndrome: usize = 1;
+    let mut position = 0;
+    while position < 72 {
+        // The first eight positions are in the check byte.
+        changes[syndrome] = if position < 8 { 0 } else { (1u64 << (position - 8)).swap_bytes() };
         syndrome <<= 1;
         if syndrome > 255 {
             syndrome ^= 0x107;
         }
-        bit += 1;
+        position += 1;
     }
     changes
 }

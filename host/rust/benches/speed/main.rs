@@ -7,7 +7,7 @@ mod fast;
 
 use lemtskavo::ffi::{self, Called, PatrolResult, Rank, ReadResult};
 use lemtskavo::{LINE_BYTES, LINE_LIMIT};
-use std::collections::BTreeSet;
+use std::collections::{BTreeMap, BTreeSet};
 use std::hint::black_box;
 use std::ops::Range;
 use std::time::Instant;
@@ -25,8 +25,8 @@ fn main() {
     }
     print_machine();
     println!("Nanoseconds, medians of {ROUNDS} rounds of {PART} lines, visited in order.\n");
-    println!("| {:<34} | {:>6} | {:>7} | {:>9} | {:>5} | {:>17} |", "", "N", "library", "safe Rust", "copy", "library/safe Rust");
-    println!("|{:-<36}|{:->7}:|{:->8}:|{:->10}:|{:->6}:|{:->18}:|", "", "", "", "", "", "");
+    println!("| {:<35} | {:>6} | {:>7} | {:>9} | {:>5} | {:>17} |", "", "N", "library", "safe Rust", "copy", "library/safe Rust");
+    println!("|{:-<37}|{:->7}:|{:->8}:|{:->10}:|{:->6}:|{:->18}:|", "", "", "", "", "", "");
     for lines in [4_096, 65_536] {
         let mut bench = Bench::new(lines);
         for work in WORKS {
@@ -111,11 +111,13 @@ enum Work {
     Patrol,
     Rebuild,
     Mend,
+    MendAndRebuild,
     Boot,
     Refused,
 }
 
-const WORKS: [Work; 7] = [Work::Read, Work::Write, Work::Patrol, Work::Rebuild, Work::Mend, Work::Boot, Work::Refused];
+const WORKS: [Work; 8] =
+    [Work::Read, Work::Write, Work::Patrol, Work::Rebuild, Work::Mend, Work::MendAndRebuild, Work::Boot, Work::Refused];
 
 impl Work {
     fn name(self) -> &'static str {
@@ -125,6 +127,7 @@ impl Work {
             Work::Patrol => "patrol, per clean line",
             Work::Rebuild => "read that rebuilds one chip",
             Work::Mend => "read that mends a bit in two chips",
+            Work::MendAndRebuild => "read that rebuilds one of two chips",
             Work::Boot => "boot, per line",
             Work::Refused => "refused call (renew of chip 9)",
         }
@@ -179,7 +182,7 @@ impl Bench {
             ratios.push(a / b);
         }
         let (library, fast, copy, ratio) = (median(library), median(fast), median(copy), median(ratios));
-        println!("| {:<34} | {:>6} | {library:>7.1} | {fast:>9.1} | {copy:>5.1} | {ratio:>17.2} |", work.name(), self.lines);
+        println!("| {:<35} | {:>6} | {library:>7.1} | {fast:>9.1} | {copy:>5.1} | {ratio:>17.2} |", work.name(), self.lines);
     }
 
     /// The faults of one round, the same for both sides: every line of the part is hit.
@@ -189,9 +192,10 @@ impl Bench {
             let chip = self.random.below(9);
             match work {
                 Work::Rebuild => list.push(Damage { line, chip, pattern: not_codeword(&mut self.random) }),
-                Work::Mend => {
+                Work::Mend | Work::MendAndRebuild => {
                     let other = (chip + 1 + self.random.below(8)) % 9;
-                    list.push(Damage { line, chip, pattern: one_bit(&mut self.random) });
+                    let pattern = if work == Work::Mend { one_bit(&mut self.random) } else { beyond_mending(&mut self.random) };
+                    list.push(Damage { line, chip, pattern });
                     list.push(Damage { line, chip: other, pattern: one_bit(&mut self.random) });
                 }
                 _ => return list,
@@ -234,7 +238,7 @@ fn timed<S: Side>(work: Work, booted: &mut Booted, data: &[[u8; 64]], part: Rang
     match work {
         Work::Read => per_line(PART, || reads::<S>(booted, part, 1)),
         Work::Rebuild => per_line(PART, || reads::<S>(booted, part, 2)),
-        Work::Mend => per_line(PART, || reads::<S>(booted, part, 3)),
+        Work::Mend | Work::MendAndRebuild => per_line(PART, || reads::<S>(booted, part, 3)),
         Work::Write => per_line(PART, || writes::<S>(booted, part, data)),
         Work::Patrol => per_line(PART, || patrols::<S>(booted, part)),
         Work::Boot => per_line(booted.rank.lines, || boots::<S>(booted)),
@@ -323,10 +327,11 @@ fn median(mut values: Vec<f64>) -> f64 {
     values[values.len() / 2]
 }
 
-/// Random calls, refused ones and damage beyond repair included: both sides must give the same results and bytes.
+/// Random calls, refused ones and damage that can't be undone included: both sides must give the same results and bytes.
 fn agree(calls: u32) {
     let mut random = Random(0x9e37_79b9_7f4a_7c15);
     let mut seen = BTreeSet::new();
+    let mut three_passes = BTreeMap::new();
     for lines in [0, 1, 3, 5, LINE_LIMIT as usize, LINE_LIMIT as usize + 1] {
         let mut pair = Pair::new(lines, &mut random);
         // Memories are compared after each call, so a large one gets few; without a rank every call is refused with 12.
@@ -334,9 +339,15 @@ fn agree(calls: u32) {
             pair.call(&mut random);
         }
         seen.append(&mut pair.seen);
+        for (case, reads) in pair.three_passes {
+            *three_passes.entry(case).or_insert(0) += reads;
+        }
     }
     assert!(seen.iter().eq(&[0, 1, 2, 3, 4, 5, 11, 12, 13, 14, 20, 21, 31]), "only refusals {seen:?} came up");
-    println!("Library and safe Rust agree on {calls} random calls, with every refusal among them.");
+    // None, one, and two or more chips beyond mending: these are all the cases that there are.
+    let cases = three_passes.keys().eq(&[(0, 0), (0, 21), (1, 0), (2, 21)]);
+    assert!(cases && three_passes.values().all(|reads| *reads >= 100), "reads of three passes were {three_passes:?}");
+    println!("Library and safe Rust agree on {calls} random calls, with every refusal and every case of pass three among them.");
 }
 
 /// One record, and a memory for each side.
@@ -345,13 +356,15 @@ struct Pair {
     library: Vec<u8>,
     fast: Vec<u8>,
     seen: BTreeSet<u32>,
+    /// Reads of three passes by the chips beyond mending, 2 for two or more, and the refusal.
+    three_passes: BTreeMap<(usize, u32), u32>,
 }
 
 impl Pair {
     fn new(lines: usize, random: &mut Random) -> Pair {
         let memory = vec![0xa5; LINE_BYTES * lines];
         let rank = Library::boot(&mut [], &[]).rank;
-        let mut pair = Pair { rank, library: memory.clone(), fast: memory, seen: BTreeSet::new() };
+        let mut pair = Pair { rank, library: memory.clone(), fast: memory, seen: BTreeSet::new(), three_passes: BTreeMap::new() };
         pair.boot(random);
         while pair.rank.lines == 0 && (1..=LINE_LIMIT as usize).contains(&lines) {
             pair.boot(random);
@@ -387,7 +400,8 @@ impl Pair {
                 let mut pattern = match random.below(8) {
                     0 => random.bytes::<9>().to_vec(),
                     1 => codeword(random).to_vec(),
-                    2 | 3 => not_codeword(random).to_vec(),
+                    2 => not_codeword(random).to_vec(),
+                    3 => beyond_mending(random).to_vec(),
                     _ => one_bit(random).to_vec(),
                 };
                 if random.below(16) == 0 {
@@ -400,9 +414,14 @@ impl Pair {
             10..=13 => {
                 let length = if random.below(16) == 0 { 63 + 2 * random.below(2) as usize } else { 64 };
                 let (mut p, mut q) = (vec![0x5a; length], vec![0x5a; length]);
+                let cells = self.fast.chunks(9).skip(9 * line as usize).take(9);
+                let beyond = cells.filter(|cell| is_beyond_mending(syndrome(cell))).count().min(2);
                 let a = Library::read(rank, &mut self.library, task, line, &mut p);
                 let b = Fast::read(rank, &mut self.fast, task, line, &mut q);
                 self.keep(rank, a == b && p == q, a.refusal, a.rank);
+                if a.passes == 3 {
+                    *self.three_passes.entry((beyond, a.refusal)).or_insert(0) += 1;
+                }
             }
             _ => {
                 let budget = [random.below(4), u32::MAX][random.below(2) as usize];
@@ -491,17 +510,38 @@ fn not_codeword(random: &mut Random) -> [u8; 9] {
     pattern
 }
 
+/// Damage to a chip that its code shows and does not take for one bit: a codeword with two check bits off. The polynomial has an even
+/// number of terms, so a syndrome has an even number of bits if the pattern has.
+fn beyond_mending(random: &mut Random) -> [u8; 9] {
+    let mut pattern = codeword(random);
+    let bit = random.below(8);
+    pattern[8] ^= 1 << bit | 1 << ((bit + 1 + random.below(7)) % 8);
+    pattern
+}
+
 /// Any word and its check byte: damage that the code inside a chip can't show.
 fn codeword(random: &mut Random) -> [u8; 9] {
     let mut pattern: [u8; 9] = random.bytes();
     pattern[8] = 0;
-    for k in 0..8 {
-        pattern[8] ^= pattern[k];
-        for _ in 0..8 {
-            pattern[8] = (pattern[8] << 1) ^ (7 * (pattern[8] >> 7));
-        }
-    }
+    pattern[8] = syndrome(&pattern);
     pattern
+}
+
+/// The syndrome of a word and its check byte, bit by bit.
+fn syndrome(cell: &[u8]) -> u8 {
+    let check = cell[..8].iter().fold(0, |check, byte| (0..8).fold(check ^ byte, |check, _| times_x(check)));
+    check ^ cell[8]
+}
+
+/// Multiplied by x modulo x^8 + x^2 + x + 1.
+fn times_x(remainder: u8) -> u8 {
+    (remainder << 1) ^ (7 * (remainder >> 7))
+}
+
+/// Neither zero nor the syndrome of one bit, x^0 to x^71.
+fn is_beyond_mending(syndrome: u8) -> bool {
+    let mut positions = std::iter::successors(Some(1), |power| Some(times_x(*power))).take(72);
+    syndrome != 0 && positions.all(|position| position != syndrome)
 }
 
 fn print_machine() {

@@ -1,4 +1,4 @@
-//! Document 01, "The code inside a chip".
+//! Document 01, "The code inside a chip", and the status of document 02's Req 02.
 
 /// x^8 + x^2 + x + 1, bit i for x^i.
 const POLYNOMIAL: u128 = 0b1_0000_0111;
@@ -81,4 +81,23 @@ pub fn mended(cell: &Cell) -> u64 {
         return word(cell);
     }
     ((bits(cell) ^ 1 << position) >> 8) as u64
+}
+
+/// What a chip tells of a word sent with Enable clear: "whether it was sound, mended, or beyond mending" (Req 02).
+#[derive(Clone, Copy, Debug, PartialEq, Eq)]
+pub enum Status {
+    Sound,
+    Mended,
+    Beyond,
+}
+
+/// The status of nine bytes. The three words are document 02's, and the ranges are document 01's: a codeword, a bit that was inverted ("one
+/// position from 0 to 71"), or "no position".
+pub fn status(cell: &Cell) -> Status {
+    let syndrome = syndrome(cell);
+    match position(syndrome) {
+        _ if syndrome == 0 => Status::Sound,
+        0..=71 => Status::Mended,
+        _ => Status::Beyond,
+    }
 }

@@ -1,6 +1,6 @@
-//! Document 01 without "Plain memory", with the tasks of document 02's Req 01: the record, the memory, the visit by its
-//! steps and the six calls.
-use super::code::{self, Cell};
+//! Document 01 without "Plain memory", with the tasks and the chips' status of document 02's Req 01 and Req 02: the record,
+//! the memory, the visit by its steps and the six calls.
+use super::code::{self, Cell, Status};
 
 /// "Line L begins at byte 81 × L" ("The rank").
 const LINE: usize = 81;
@@ -93,6 +93,44 @@ fn pass(enable: bool, registers: &[u64; 9], memory: &[u8], line: u32) -> [u64; 9
     std::array::from_fn(|chip| sent(enable, registers[chip], &held(memory, line, chip)))
 }
 
+/// What the nine chips of a line tell "for each word sent with Enable clear" (Req 02).
+pub fn told(memory: &[u8], line: u32) -> [Status; 9] {
+    std::array::from_fn(|chip| code::status(&held(memory, line, chip)))
+}
+
+/// The words with that of one chip replaced by the xor of the other eight ("A visit to a line", step 4, and Req 02).
+fn rebuilt(mut words: [u64; 9], chip: usize) -> [u64; 9] {
+    // Leaving a word out of the sum is the xor of the others.
+    words[chip] = 0;
+    words[chip] = xor(&words);
+    words
+}
+
+/// Step 5 after pass three: the flagged chips, what the nine sent and what they told. It gives the line's words, or 21.
+type AfterPassThree = fn(u32, [u64; 9], [Status; 9]) -> Result<[u64; 9], u32>;
+
+/// "A visit to a line", step 5, by Req 02.
+fn step_5(flagged: u32, sent: [u64; 9], told: [Status; 9]) -> Result<[u64; 9], u32> {
+    let beyond: Vec<usize> = (0..9).filter(|&chip| flagged >> chip & 1 == 1 && told[chip] == Status::Beyond).collect();
+    match beyond[..] {
+        // "If just one flagged chip is beyond mending, its word is the xor of the other eight."
+        [chip] => Ok(rebuilt(sent, chip)),
+        // "If two or more are, the visit is refused 21."
+        [_, _, ..] => Err(21),
+        // "Otherwise the words must xor to zero as before."
+        [] => document_01_step_5(flagged, sent, told),
+    }
+}
+
+/// "A visit to a line", step 5, as document 01 has it without Req 02: "The nine words sent must xor to zero, else 21."
+fn document_01_step_5(_: u32, sent: [u64; 9], _: [Status; 9]) -> Result<[u64; 9], u32> {
+    if xor(&sent) == 0 {
+        Ok(sent)
+    } else {
+        Err(21)
+    }
+}
+
 /// What a visit gives: the nine words of an answered line, or 20 or 21 ("A visit to a line").
 struct Visit {
     passes: u32,
@@ -102,13 +140,13 @@ struct Visit {
 }
 
 /// "A visit to a line", steps 1 to 5. It changes neither record nor memory.
-fn look(record: &Record, memory: &[u8], line: u32) -> Visit {
+fn look(step_5: AfterPassThree, record: &Record, memory: &[u8], line: u32) -> Visit {
     let catch_words = record.catch_words;
     let complements = catch_words.map(|catch_word| !catch_word);
     let mut visit = Visit { passes: 1, flagged: 0, collisions: 0, words: Err(0) };
 
     // Step 1.
-    let mut words = pass(true, &catch_words, memory, line);
+    let words = pass(true, &catch_words, memory, line);
     let candidates: Vec<usize> = (0..9).filter(|&chip| words[chip] == catch_words[chip]).collect();
 
     // Step 2.
@@ -128,30 +166,20 @@ fn look(record: &Record, memory: &[u8], line: u32) -> Visit {
         // Step 3.
         0 if xor(&words) == 0 => Ok(words),
         0 => Err(20),
-        // Step 4: leaving the flagged word out of the sum is the xor of the other eight.
-        1 => {
-            let chip = visit.flagged.trailing_zeros() as usize;
-            words[chip] = 0;
-            words[chip] = xor(&words);
-            Ok(words)
-        }
+        // Step 4.
+        1 => Ok(rebuilt(words, visit.flagged.trailing_zeros() as usize)),
         // Step 5.
         _ => {
             visit.passes = 3;
-            let third = pass(false, &catch_words, memory, line);
-            if xor(&third) == 0 {
-                Ok(third)
-            } else {
-                Err(21)
-            }
+            step_5(visit.flagged, pass(false, &catch_words, memory, line), told(memory, line))
         }
     };
     visit
 }
 
 /// "A visit to a line" with step 6: "Only an answered line is written back", and "only that task's total moves" (Req 01).
-fn visit(record: &mut Record, memory: &mut [u8], task: u32, line: u32) -> Visit {
-    let visit = look(record, memory, line);
+fn visit(step_5: AfterPassThree, record: &mut Record, memory: &mut [u8], task: u32, line: u32) -> Visit {
+    let visit = look(step_5, record, memory, line);
     let Ok(words) = visit.words else { return visit };
     for (chip, &word) in words.iter().enumerate() {
         if visit.flagged >> chip & 1 == 1 {
@@ -230,7 +258,16 @@ pub fn write(record: Record, memory: &mut [u8], line: u32, data: &[u8]) -> Calle
 }
 
 /// Read: "a visit that puts the line in a 64-byte buffer" ("The calls"), for a task (Req 01).
-pub fn read(mut record: Record, memory: &mut [u8], task: u32, line: u32, buffer: &mut [u8]) -> Read {
+pub fn read(record: Record, memory: &mut [u8], task: u32, line: u32, buffer: &mut [u8]) -> Read {
+    read_with(step_5, record, memory, task, line, buffer)
+}
+
+/// The same call with document 01's step 5, without Req 02, to compare with.
+pub fn read_without_req_02(record: Record, memory: &mut [u8], task: u32, line: u32, buffer: &mut [u8]) -> Read {
+    read_with(document_01_step_5, record, memory, task, line, buffer)
+}
+
+fn read_with(step_5: AfterPassThree, mut record: Record, memory: &mut [u8], task: u32, line: u32, buffer: &mut [u8]) -> Read {
     let refusal = first_met(&[
         (not_ready(&record), 12),
         (other_length(&record, memory), 13),
@@ -242,7 +279,7 @@ pub fn read(mut record: Record, memory: &mut [u8], task: u32, line: u32, buffer:
     if refusal != 0 {
         return Read { refusal, passes: 0, flagged: 0, collisions: 0, record };
     }
-    let visit = visit(&mut record, memory, task, line);
+    let visit = visit(step_5, &mut record, memory, task, line);
     let refusal = match visit.words {
         Ok(words) => {
             for chip in 0..8 {
@@ -270,7 +307,7 @@ pub fn patrol(record: Record, memory: &mut [u8], task: u32, first: u32, budget: 
         return patrol;
     }
     for line in first..first + budget.min(record.lines - first) {
-        let visit = visit(&mut patrol.record, memory, task, line);
+        let visit = visit(step_5, &mut patrol.record, memory, task, line);
         patrol.visited += 1;
         match visit.words {
             Ok(_) => patrol.rewritten += visit.flagged.count_ones(),

@@ -1,6 +1,6 @@
 //! Document 01, "Plain memory": it knows neither record nor chips, and no catch-words. Of a task it only sees whether
-//! there is one of that number (document 02, Req 01).
-use super::code::{self, Cell};
+//! there is one of that number (document 02, Req 01). Of the chips' status it knows what its patterns show (Req 02).
+use super::code::{self, Cell, Status};
 
 /// What it keeps for each line: 64 bytes and nine patterns, "all zero after boot".
 #[derive(Clone, Debug)]
@@ -36,10 +36,21 @@ impl Line {
         codewords == 0 && self.beyond_one_bit() <= 1
     }
 
-    /// "With 0 or 1 it answers; with more it answers if M of every pattern is the zero word, else 21."
-    /// "An answer clears the line's patterns."
+    /// "Its one wide pattern is beyond mending" (Req 02). Wide is more than one bit set, and there must be just one such.
+    pub fn one_wide_beyond_mending(&self) -> bool {
+        let wide: Vec<&Cell> = self.patterns.iter().filter(|pattern| weight(pattern) > 1).collect();
+        matches!(wide[..], [pattern] if code::status(pattern) == Status::Beyond)
+    }
+
+    /// "With 0 or 1 it answers; with more it answers if M of every pattern is the zero word", and "with several damaged chips also when its
+    /// one wide pattern is beyond mending" (Req 02).
+    fn answers(&self) -> bool {
+        self.damaged() <= 1 || self.patterns.iter().all(|pattern| code::mended(pattern) == 0) || self.one_wide_beyond_mending()
+    }
+
+    /// It answers, "else 21". "An answer clears the line's patterns."
     fn visit(&mut self) -> Result<[u8; 64], u32> {
-        if self.damaged() > 1 && self.patterns.iter().any(|pattern| code::mended(pattern) != 0) {
+        if !self.answers() {
             return Err(21);
         }
         self.patterns = [[0; 9]; 9];

@@ -1,9 +1,11 @@
-//! What the tests share: random numbers, guarded buffers, the calls on them, and a tally of what was reached.
+//! What the tests share: random numbers, guarded buffers, the calls on them, the model's record, and a tally of what was reached.
 // Each test file uses only a part of it.
 #![allow(dead_code)]
 
 use std::collections::BTreeMap;
 
+use crate::model::code::Status;
+use crate::model::device::{self, Record};
 use lemtskavo::ffi::{self, Called, PatrolResult, Rank, ReadResult};
 
 /// The seed of all lists: 1, or the number in `RANK_TEST_SEED`.
@@ -232,6 +234,38 @@ impl Call {
     }
 }
 
+/// The library's record as the model's.
+pub fn record_of(rank: Rank) -> Record {
+    Record { lines: rank.lines, enable: rank.enable, catch_words: rank.catch_words, registers: rank.registers, totals: rank.repairs }
+}
+
+/// The model's record as the library's.
+pub fn rank_of(record: Record) -> Rank {
+    Rank {
+        lines: record.lines,
+        enable: record.enable,
+        catch_words: record.catch_words,
+        registers: record.registers,
+        repairs: record.totals,
+    }
+}
+
+/// The cases of a visit's step 5, by how many flagged chips are beyond mending (document 02, Req 02).
+pub const STEP_5: [&str; 4] = [
+    "two or more flagged, none beyond mending: answered",
+    "two or more flagged, none beyond mending: refused 21",
+    "two or more flagged, one beyond mending: answered",
+    "two or more flagged, two or more beyond mending: refused 21",
+];
+
+/// What the nine chips of the line of a read tell before it; nothing for other calls and other lines.
+pub fn told_before(call: &Call, memory: &[u8]) -> Option<[Status; 9]> {
+    match call {
+        Call::Read { line, .. } if (*line as usize) < memory.len() / 81 => Some(device::told(memory, *line)),
+        _ => None,
+    }
+}
+
 /// The rows of a tally.
 pub const CALLS: [&str; 6] = ["boot", "write", "read", "patrol", "renew", "fault"];
 
@@ -265,6 +299,19 @@ impl Tally {
         *self.cases.entry(name).or_default() += 1;
     }
 
+    /// Counts which case of step 5 a read came to, by what the chips told before it.
+    pub fn step_5(&mut self, told: Option<[Status; 9]>, outcome: &Outcome) {
+        let Some(told) = told.filter(|_| outcome.counts[0] == 3) else { return };
+        let beyond = told.iter().filter(|status| **status == Status::Beyond).count();
+        self.case(match (beyond, outcome.refusal) {
+            (0, 0) => STEP_5[0],
+            (0, 21) => STEP_5[1],
+            (1, 0) => STEP_5[2],
+            (2.., 21) => STEP_5[3],
+            (_, refusal) => panic!("{beyond} chips are beyond mending, and the read gives {refusal}"),
+        });
+    }
+
     pub fn calls(&self) -> u64 {
         self.table.iter().flatten().sum()
     }
@@ -273,9 +320,14 @@ impl Tally {
         self.table[row][refusal as usize]
     }
 
+    /// How often a case was reached.
+    pub fn count(&self, name: &str) -> u64 {
+        self.cases.get(name).copied().unwrap_or(0)
+    }
+
     /// A case that a test is about must have been reached.
     pub fn demand(&self, name: &str, least: u64) {
-        let reached = self.cases.get(name).copied().unwrap_or(0);
+        let reached = self.count(name);
         assert!(reached >= least, "{name}: reached {reached} times, at least {least} are due");
     }
 
