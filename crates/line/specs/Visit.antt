@@ -1,6 +1,6 @@
 -- Document 01, "The code inside a chip" (what a chip sends) and "A visit to a line", step by step; document 02, Req 02, in step 5. m stands
--- for the line's 81 bytes, cws for the nine catch-words and k for a chip's number. A catch-word, document 01's term, is what the controller expects of a chip in
--- place of a word that the chip knows is bad; a register is what the chip then sends.
+-- for the line's 81 bytes, cws for the nine catch-words and k for a chip's number. A catch-word, document 01's term, is what the controller
+-- expects of a chip in place of a word that the chip knows is bad; a register is what the chip then sends.
 -- Definitions alone; what holds of them is in `VisitLaws`, `DamageLaws` and `FormerLaws`.
 use Prim.Native.Nat.{ℕ, zero, suc, _+_, _-_, _/_, _^_}
 use mathlib.Core.Bool.{Bool, true, false, not, _&&_, cond}

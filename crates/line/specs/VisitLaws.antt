@@ -1,6 +1,6 @@
 -- The closed form of a visit. The flagged chips are those that hold no codeword, and the line's bytes alone decide which of them are beyond
--- mending, the outcome, the words and the bytes after it; the catch-words decide the collisions, and with them whether pass two is made. m and
--- cws are any lists, but in the last laws m is 81 bytes.
+-- mending, the outcome, the words and the bytes after it; the catch-words decide the collisions, and with them whether pass two is made.
+-- m and cws are any lists, but in the last laws m is 81 bytes.
 -- Assumes nothing.
 use mathlib.Core.Path.{_≡_, refl, sym, ap, _∙_}
 use mathlib.Core.Logic.{_⊎_, inl, inr}
