@@ -1,5 +1,5 @@
 pub mod Code
-pub mod Positions
+pub mod Former
 pub mod Lists
 pub mod Marked
 pub mod Fold
@@ -11,5 +11,6 @@ pub mod RemainderLaws
 pub mod CodeLaws
 pub mod MendLaws
 pub mod StatusLaws
+pub mod FormerLaws
 pub mod FoldLaws
 pub mod LaneLaws

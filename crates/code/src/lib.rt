@@ -2,12 +2,11 @@
 // word that it sends with Enable clear (document 02, Req 02).
 ghost use mathlib.Core.Path.{_≡_};
 ghost use Prim.Native.Nat.{_*_, _/_};
-ghost use Rattle.code.specs.Code.{cell, syndromeOf, isCodeword, checkOf, positionOf, bitAt, mendedWord, statusAt, statusOf, isBeyond};
+ghost use Rattle.code.specs.Code.{cell, timesX, syndromeOf, isCodeword, checkOf, positionOf, bitAt, mendedWord, statusAt, statusOf, isBeyond};
 ghost use Rattle.code.specs.Fold.{Folded};
 
 pub mod lanes;
 pub mod marked;
-mod positions;
 
 // What a chip tells of a word sent with Enable clear, in document 02's words. Sound: it holds a codeword. Mended: one bit was inverted.
 // Beyond mending: it holds no codeword, and nothing was inverted.
@@ -44,12 +43,28 @@ pub fn is_codeword(word: u64, check: u8) -> bool
     syndrome(word, check) == 0
 }
 
-// The position, from 0 to 71, of a syndrome; 255 stands for no position.
+// The position, from 0 to 71, of a syndrome; 255 stands for no position. The positions' syndromes are the powers of x from x^0 up, each the
+// one before times x, and are walked through until this one comes (document 02, Req 03).
 pub fn position(syndrome: u8) -> u8
     ensures { λ r. ⌜ r ≡ positionOf syndrome ⌝ }
 {
-    let positions = positions::table();
-    positions[syndrome as usize]
+    let mut power = 1;
+    let mut i = 0;
+    while i < 72 {
+        if power == syndrome {
+            return i;
+        }
+        power = times_x(power);
+        i += 1;
+    }
+    255
+}
+
+// A remainder times x. Where x^7 moves up to x^8, the rest of the polynomial, x^2 + x + 1, stands for it.
+fn times_x(remainder: u8) -> u8
+    ensures { λ r. ⌜ r ≡ timesX remainder ⌝ }
+{
+    (remainder << 1) ^ ((remainder >> 7) * 0x07)
 }
 
 // The word after mending, document 01's M, and its status. A codeword is sound, though its syndrome has position 255.

@@ -1,11 +1,13 @@
-// Trials at run time: the code inside a chip against document 01's marked examples and against a CRC-8 made another way, and visits and
-// calls on lines that were made with that CRC-8. Each line of output says what was tried, how many trials succeeded, and of how many.
+// Trials at run time: the code inside a chip against document 01's marked examples, against a CRC-8 made another way and against the former
+// table of positions, and visits and calls on lines that were made with that CRC-8. Each line of output says what was tried, how many trials
+// succeeded, and of how many.
 use code::Status;
 use libc::STDOUT_FILENO;
 use refusals::Call;
 
 mod calls;
 mod crc;
+mod former;
 mod large;
 mod layout;
 mod refusals;
@@ -30,8 +32,9 @@ enum Trial {
     // A codeword with one of its 72 bits inverted: its check byte, syndrome and codeword test, its position, its word after mending, and its
     // status; and the status of the codeword itself.
     Damage,
-    // A syndrome: its position, the word after mending, and the status.
+    // A syndrome: its position, the word after mending, and the status; and its position beside the one that the former table gave.
     Syndrome,
+    FormerPosition,
     // A line laid and read back.
     Laid,
     // Visits to a line: with one bit inverted, with one bit of two chips inverted, with damage to two chips that can't be undone, with
@@ -123,6 +126,11 @@ fn report_code() {
     report(
         b"statuses of the 256 syndromes, against the bitwise CRC-8",
         Trial::Syndrome,
+        256,
+    );
+    report(
+        b"positions of the 256 syndromes, against the former table",
+        Trial::FormerPosition,
         256,
     );
 }
@@ -337,6 +345,7 @@ fn succeeds(trial: Trial, i: u64) -> bool {
         Trial::EightWords => eight_agree(i),
         Trial::Damage => mends(word_of(i / 72), i % 72),
         Trial::Syndrome => statuses::agrees(i),
+        Trial::FormerPosition => former::agrees(i),
         Trial::Laid => visits::lays(),
         Trial::Rebuilt => visits::rebuilds(i),
         Trial::Mended => visits::mends(i),

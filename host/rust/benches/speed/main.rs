@@ -17,6 +17,8 @@ const ROUNDS: u32 = 401;
 const PART: u32 = 4_096;
 /// The task of all timed visits.
 const TASK: u32 = 0;
+/// Position 71 of a chip's nine bytes, bit 63 of its word. The library walks up through the positions, and has it last.
+const LAST_BIT: [u8; 9] = [0x80, 0, 0, 0, 0, 0, 0, 0, 0];
 
 fn main() {
     agree(200_000);
@@ -111,13 +113,14 @@ enum Work {
     Patrol,
     Rebuild,
     Mend,
+    MendLast,
     MendAndRebuild,
     Boot,
     Refused,
 }
 
-const WORKS: [Work; 8] =
-    [Work::Read, Work::Write, Work::Patrol, Work::Rebuild, Work::Mend, Work::MendAndRebuild, Work::Boot, Work::Refused];
+const WORKS: [Work; 9] =
+    [Work::Read, Work::Write, Work::Patrol, Work::Rebuild, Work::Mend, Work::MendLast, Work::MendAndRebuild, Work::Boot, Work::Refused];
 
 impl Work {
     fn name(self) -> &'static str {
@@ -127,6 +130,7 @@ impl Work {
             Work::Patrol => "patrol, per clean line",
             Work::Rebuild => "read that rebuilds one chip",
             Work::Mend => "read that mends a bit in two chips",
+            Work::MendLast => "read that mends bit 63 in two chips",
             Work::MendAndRebuild => "read that rebuilds one of two chips",
             Work::Boot => "boot, per line",
             Work::Refused => "refused call (renew of chip 9)",
@@ -192,11 +196,16 @@ impl Bench {
             let chip = self.random.below(9);
             match work {
                 Work::Rebuild => list.push(Damage { line, chip, pattern: not_codeword(&mut self.random) }),
-                Work::Mend | Work::MendAndRebuild => {
+                Work::Mend | Work::MendLast | Work::MendAndRebuild => {
                     let other = (chip + 1 + self.random.below(8)) % 9;
-                    let pattern = if work == Work::Mend { one_bit(&mut self.random) } else { beyond_mending(&mut self.random) };
-                    list.push(Damage { line, chip, pattern });
-                    list.push(Damage { line, chip: other, pattern: one_bit(&mut self.random) });
+                    let random = &mut self.random;
+                    let [first, second] = match work {
+                        Work::Mend => [one_bit(random), one_bit(random)],
+                        Work::MendLast => [LAST_BIT; 2],
+                        _ => [beyond_mending(random), one_bit(random)],
+                    };
+                    list.push(Damage { line, chip, pattern: first });
+                    list.push(Damage { line, chip: other, pattern: second });
                 }
                 _ => return list,
             }
@@ -238,7 +247,7 @@ fn timed<S: Side>(work: Work, booted: &mut Booted, data: &[[u8; 64]], part: Rang
     match work {
         Work::Read => per_line(PART, || reads::<S>(booted, part, 1)),
         Work::Rebuild => per_line(PART, || reads::<S>(booted, part, 2)),
-        Work::Mend | Work::MendAndRebuild => per_line(PART, || reads::<S>(booted, part, 3)),
+        Work::Mend | Work::MendLast | Work::MendAndRebuild => per_line(PART, || reads::<S>(booted, part, 3)),
         Work::Write => per_line(PART, || writes::<S>(booted, part, data)),
         Work::Patrol => per_line(PART, || patrols::<S>(booted, part)),
         Work::Boot => per_line(booted.rank.lines, || boots::<S>(booted)),
