@@ -8,14 +8,16 @@ use native.Mathlib.Omega.{arith}
 use lib.Dec.{eqb, ltb}
 use lib.ListN.{length, set, length-map}
 use borrow.Author.Tests.{ltb-true, eqb-true}
-use Rattle.line.specs.Cells.{lineWord, stored}
+use Rattle.cells.specs.Cells.{lineWord, stored}
 use Rattle.line.specs.Visit.{refusalOf}
 use Rattle.line.specs.declared.Report.{Report}
 use Rattle.line.specs.declared.Outcome.{Outcome}
 use Rattle.line.specs.declared.Outcome.the-variants.{Answered, Refused}
-use Rattle.rank.specs.Runs.{Did, outs, end, upFrom, sumOf}
-use Rattle.rank.specs.Lines.{lineAt}
-use Rattle.rank.specs.Calls.{Device, visitOf, writeOf, writeBy, readOf, readBy, readResult, bufferBy, foundLine, patrolOf, patrolBy, patrolled, patrolLines, refusedIn, renewOf, renewBy, renewed, faultOf, faultBy, faulted}
+use Rattle.visits.specs.Runs.{Did, outs, end, upFrom, sumOf}
+use Rattle.memory.specs.Lines.{lineAt, faulted}
+use Rattle.visits.specs.Visits.{Device, visitOf, readBy, resultOf, bufferBy, foundLine, refusedIn}
+use Rattle.rank.specs.Calls.{writeOf, writeBy, readOf, patrolOf, patrolBy, patrolled, patrolLines, renewOf, renewBy, faultOf, faultBy}
+use Rattle.record.specs.Record.{renewed}
 use Rattle.claims.specs.Lists.{Call, write, read, patrol, renew, fault, All, Typed, Seen, refused, done, line, counts, seenBy, deviceCall}
 use Rattle.claims.specs.Plain as P
 use Rattle.claims.specs.Plain.{Line, Plain, whole, hit, answers, visitBy, plainVisit, unless, plainRefusal, visits, plainAccepted, plainBy, plainCall}
@@ -84,7 +86,7 @@ module _ (n : ℕ) where
 
   read-same : (d : Device) (p : Plain) (task l : ℕ) (b : List ℕ) → l < n → Related n d p → Premise (p .lineAt l)
       → Alike (deviceBy zero d (read task l b)) (plainVisit p l)
-  unfolding deviceBy readBy readResult plainVisit
+  unfolding deviceBy readBy resultOf plainVisit
   read-same d p task l b in-n r h =
       let found : List ℕ = foundLine (lineAt (d .memory) l) (d .rank .«catch_words») in
       record {

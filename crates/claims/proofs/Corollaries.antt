@@ -13,30 +13,33 @@ use lib.Dec.{eqb, ltb}
 use lib.ListN.{length, replicate}
 use borrow.Author.Tests.{lt-ltb, eq-eqb, ne-eqb}
 use Rattle.code.specs.Code.{isCodeword}
-use Rattle.line.specs.Visit.{beyondChips, outcomeOf, bytesBy, bytesAfter, reportOf, refusalOf}
+use Rattle.passes.specs.Passes.{beyondChips}
+use Rattle.line.specs.Visit.{outcomeOf, bytesBy, bytesAfter, reportOf, refusalOf}
+use Rattle.line.specs.VisitLaws.{visit-answered}
 use Rattle.line.specs.Former.{formerOutcome, AsBefore}
 use Rattle.line.specs.FormerLaws.{former-answered}
 use Rattle.line.specs.declared.Outcome.{Outcome}
 use Rattle.line.specs.declared.Outcome.the-variants.{Answered, Refused}
-use Rattle.line.specs.Cells.{numberOf, xorBytes}
-use Rattle.line.specs.ByteLaws.{Bytes, number-zeros}
-use Rattle.rank.specs.declared.Rank.{Rank}
-use Rattle.rank.specs.Lines.{lineAt, withLine}
-use Rattle.rank.specs.LineLaws.{line-same}
-use Rattle.rank.specs.Record.{fresh, settled, settledBy}
-use Rattle.rank.specs.Refusals.{lineOut, bufferOut, chipOut, patternOut, catchWordsOut, memoryOut, notReady, memoryDiffers, registerDiffers, taskOut, bootRefusal, writeRefusal, readRefusal, patrolRefusal, renewRefusal, faultRefusal}
-use Rattle.rank.specs.Calls.{visitOf, bootBy, bootOf, writeBy, writeOf, bufferBy, readResult, readBy, readOf, patrolLines, patrolBy, patrolOf, renewBy, renewOf, faultBy, faultOf, Device}
-use Rattle.rank.specs.Runs.{Did, outs, end}
+use Rattle.words.specs.Bytes.{numberOf, xorBytes}
+use Rattle.words.specs.ByteLaws.{Bytes, number-zeros}
+use Rattle.record.specs.declared.Rank.{Rank}
+use Rattle.memory.specs.Lines.{lineAt, withLine}
+use Rattle.memory.specs.LineLaws.{line-same}
+use Rattle.record.specs.Record.{fresh, settled, settledBy}
+use Rattle.refusals.specs.Refusals.{lineOut, bufferOut, chipOut, patternOut, catchWordsOut, memoryOut, notReady, memoryDiffers, registerDiffers, taskOut, bootRefusal, writeRefusal, readRefusal, patrolRefusal, renewRefusal, faultRefusal}
+use Rattle.visits.specs.Visits.{visitOf, bufferBy, resultOf, readBy, Device}
+use Rattle.rank.specs.Calls.{bootBy, bootOf, writeBy, writeOf, readOf, patrolLines, patrolBy, patrolOf, renewBy, renewOf, faultBy, faultOf}
+use Rattle.visits.specs.Runs.{Did, outs, end}
 use Rattle.claims.specs.Lists.{All, Call, write, read, renew, fault, Typed, Seen, refused, done, line, counts, seenBy, deviceCall}
 use Rattle.claims.specs.Plain as P
 use Rattle.claims.specs.Plain.{Line, Plain, whole, hit, damage, answers, visitBy, plainVisit, unless, plainRefusal, plainAccepted, plainBy, plainCall}
 use Rattle.claims.specs.Premises.{Premise, PremiseBy, AtCalls}
 use Rattle.claims.specs.Claim.{bootedDevice, bootedPlain}
 use Rattle.claims.proofs.Related.{Related}
-use Rattle.claims.proofs.Visits.{line-beyond, visit-answered}
+use Rattle.claims.proofs.Visits.{line-beyond}
 use Rattle.claims.proofs.Refusals.{None, first-none}
 use Rattle.claims.proofs.Calls.{call-same}
-use Rattle.rank.specs.RefusalLaws.{boot-passed}
+use Rattle.refusals.specs.RefusalLaws.{boot-passed}
 use Rattle.claims.proofs.Claims.{FaithfulFrom, faithful-from, faithful-boot}
 use Rattle.claims.proofs.Damages.{OneChip, Narrow, OneBeyond, one-premise, one-answers, narrow-premise, narrow-answers, beyond-premise, beyond-answers, zeros-xor}
 
@@ -65,7 +68,7 @@ write-refused-keeps r m l b = by (writeRefusal r m l b)
 -- a refused read, by 20 and 21 too, leaves the memory and the buffer and returns the record given
 pub read-refused-keeps : (r : Rank) (m : List ℕ) (task l : ℕ) (b : List ℕ) → (readOf r m task l b .result .refusal ≡ 0 → ⊥)
     → (readOf r m task l b .memory ≡ m) × (readOf r m task l b .buffer ≡ b) × (readOf r m task l b .result .rank ≡ r)
-unfolding readOf readBy readResult visitOf bufferBy reportOf settled settledBy bytesAfter bytesBy refusalOf
+unfolding readOf readBy resultOf visitOf bufferBy reportOf settled settledBy bytesAfter bytesBy refusalOf
 read-refused-keeps r m task l b = by (readRefusal r m task l b)
   where
     cws : List ℕ
@@ -170,7 +173,7 @@ pub read-accepts : (r : Rank) (m : List ℕ) (task l : ℕ) (b : List ℕ)
     → (readOf r m task l b .result .refusal ≡ 0)
     ↔ (None (notReady r ∷ memoryDiffers r m ∷ registerDiffers r ∷ taskOut task ∷ lineOut r l ∷ bufferOut b ∷ [])
     × (outcomeOf (lineAt m l) (r .«catch_words») ≡ Answered))
-unfolding readOf readBy readResult visitOf reportOf refusalOf readRefusal
+unfolding readOf readBy resultOf visitOf reportOf refusalOf readRefusal
 read-accepts r m task l b =
     by (readRefusal r m task l b)
     (first-none

@@ -7,9 +7,10 @@ use Prim.Native.Nat.{ℕ, zero, suc}
 use lib.Dec.{eqb, leb, ltb, lit<}
 use borrow.Author.Tests.{eqb-true, leb-true, ltb-true, not-false}
 use Rattle.code.specs.Code.{isCodeword}
-use Rattle.line.specs.Chips.{count}
-use Rattle.line.specs.ChipLaws.{count-none, and-first, and-second}
-use Rattle.line.specs.ByteLaws.{Bytes, bytes-cons}
+use Rattle.cells.specs.Chips.{count}
+use Rattle.code.specs.TestLaws.{and-first, and-second}
+use Rattle.cells.specs.ChipLaws.{count-none}
+use Rattle.words.specs.ByteLaws.{Bytes, bytes-cons}
 use Rattle.claims.specs.Lists.{Call, write, read, patrol, renew, fault, All, Typed}
 use Rattle.claims.specs.Plain.{Line, Plain, damage, wide, plainVisit, plainRefusal, visits, plainCall}
 use Rattle.claims.specs.Premises.{Premise, AtVisits, PremiseBy, AtCalls}

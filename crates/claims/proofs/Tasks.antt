@@ -7,16 +7,17 @@ use mathlib.Core.List.{List, [], _∷_, _++_, map}
 use Prim.Native.Nat.{ℕ, zero, suc, _-_, min}
 use lib.Dec.{ltb}
 use lib.ListN.{length}
-use Rattle.line.specs.Cells.{lineWord, stored}
+use Rattle.cells.specs.Cells.{lineWord, stored}
 use Rattle.line.specs.Visit.{reportOf}
 use Rattle.line.specs.declared.Report.{Report}
 use Rattle.line.specs.declared.Outcome.{Outcome}
 use Rattle.line.specs.declared.Outcome.the-variants.{Answered, Refused}
-use Rattle.rank.specs.Runs.{Did, outs, end, upFrom}
-use Rattle.rank.specs.Lines.{lineAt, withLine}
-use Rattle.rank.specs.Record.{settled, settledBy}
-use Rattle.rank.specs.Refusals.{notReady, memoryDiffers, registerDiffers, taskOut, lineOut, bufferOut, refusedIf, firstOf, stateRefusals, writeRefusal, readRefusal, patrolRefusal, renewRefusal, faultRefusal}
-use Rattle.rank.specs.Calls.{Device, visitOf, writeBy, readBy, readResult, patrolBy, patrolled, patrolLines, refusedIn, renewBy, renewed, faultBy, faulted, readOf, patrolOf, rewrittenIn}
+use Rattle.visits.specs.Runs.{Did, outs, end, upFrom}
+use Rattle.memory.specs.Lines.{lineAt, withLine, faulted}
+use Rattle.record.specs.Record.{settled, settledBy, renewed}
+use Rattle.refusals.specs.Refusals.{notReady, memoryDiffers, registerDiffers, taskOut, lineOut, bufferOut, refusedIf, firstOf, stateRefusals, writeRefusal, readRefusal, patrolRefusal, renewRefusal, faultRefusal}
+use Rattle.visits.specs.Visits.{Device, visitOf, readBy, resultOf, refusedIn, rewrittenIn}
+use Rattle.rank.specs.Calls.{writeBy, patrolBy, patrolled, patrolLines, renewBy, faultBy, readOf, patrolOf}
 use Rattle.claims.specs.Lists.{Call, write, read, patrol, renew, fault, Seen, refused, counts, deviceCall}
 use Rattle.claims.specs.Plain.{Plain, unless, plainRefusal, plainAccepted, plainBy, plainCall}
 use Rattle.claims.specs.Claim.{bootedDevice, bootedPlain}
@@ -112,7 +113,7 @@ lines-alike task other ls d e h =
     record { same = ap (λ (xs : List Report). counts (length xs) (refusedIn xs)) same; still = w .related }
 
 accepted-alike : (d e : Device) (c : Call) → Same d e → CallsAlike (deviceBy zero d c) (deviceBy zero e (anyTask c))
-unfolding anyTask deviceBy untotalled visitOf writeBy readBy readResult patrolBy patrolLines patrolled renewBy renewed faultBy
+unfolding anyTask deviceBy untotalled visitOf writeBy readBy resultOf patrolBy patrolLines patrolled renewBy renewed faultBy
 accepted-alike d e (write l b) h =
     record {
       same = refl;
@@ -156,7 +157,7 @@ call-alike d e c h =
 
 -- what a call reports besides
 reported-alike : (d e : Device) (c : Call) → Same d e → reportedBy d c ≡ reportedBy e (anyTask c)
-unfolding reportedBy anyTask untotalled readOf readBy readResult visitOf patrolOf patrolBy patrolLines patrolled
+unfolding reportedBy anyTask untotalled readOf readBy resultOf visitOf patrolOf patrolBy patrolLines patrolled
 reported-alike d e (write l b) h = refl
 reported-alike d e (read task l b) h =
     ap (by-number d task) (refusal-alike d e (read task l b) h) ∙ by (deviceRefusal e (anyTask (read task l b)))

@@ -11,20 +11,21 @@ use lib.Dec.{eqb}
 use lib.ListN.{length, getD, replicate, getD-replicate}
 use borrow.Author.Tests.{eqb-true, eqb-false, ne-eqb}
 use Rattle.line.specs.Visit.{outcomeOf, reportOf, refusalOf}
+use Rattle.line.specs.VisitLaws.{visit-answered}
 use Rattle.line.specs.declared.Report.{Report}
 use Rattle.line.specs.declared.Outcome.{Outcome}
 use Rattle.line.specs.declared.Outcome.the-variants.{Answered, Refused}
-use Rattle.rank.specs.Runs.{outs, end, upFrom, sumOf}
-use Rattle.rank.specs.Lines.{lineAt}
-use Rattle.rank.specs.Record.{totalLimit, fresh, booted, counted, settled, settledBy}
-use Rattle.rank.specs.RecordLaws.{length-counted, counted-own, counted-other}
-use Rattle.rank.specs.Refusals.{bootRefusal, writeRefusal, readRefusal, patrolRefusal, renewRefusal, faultRefusal}
-use Rattle.rank.specs.RefusalLaws.{read-passed, patrol-passed}
-use Rattle.rank.specs.Calls.{Device, visitOf, isRefused, rewrittenBy, rewrittenIn, bootBy, bootOf, writeBy, writeOf, readResult, readBy, readOf, patrolled, patrolLines, patrolBy, patrolOf, renewBy, renewOf, renewed, faultBy, faultOf}
+use Rattle.visits.specs.Runs.{outs, end, upFrom, sumOf}
+use Rattle.memory.specs.Lines.{lineAt}
+use Rattle.record.specs.Record.{totalLimit, fresh, booted, counted, settled, settledBy, renewed}
+use Rattle.record.specs.RecordLaws.{length-counted, counted-own, counted-other}
+use Rattle.refusals.specs.Refusals.{bootRefusal, writeRefusal, readRefusal, patrolRefusal, renewRefusal, faultRefusal}
+use Rattle.refusals.specs.RefusalLaws.{read-passed, patrol-passed}
+use Rattle.visits.specs.Visits.{Device, visitOf, isRefused, rewrittenBy, rewrittenIn, resultOf, readBy}
+use Rattle.rank.specs.Calls.{bootBy, bootOf, writeBy, writeOf, readOf, patrolled, patrolLines, patrolBy, patrolOf, renewBy, renewOf, faultBy, faultOf}
 use Rattle.claims.specs.Lists.{Call, write, read, patrol, renew, fault, deviceCall}
 use Rattle.claims.specs.Claim.{bootedDevice}
 use Rattle.claims.specs.Tasks.{rewritesBy, rewrites, names, rewritesFor, sumAlong, tasks, totalOf, after, allRewritten, rewrittenFor, Counted}
-use Rattle.claims.proofs.Visits.{visit-answered}
 
 -- ---- one total
 
@@ -127,7 +128,7 @@ module _ (t : ℕ) (below : t < 8) (task : ℕ) where
       (rewritesBy (readBy n (d .rank) (d .memory) task l b .result .refusal) (readBy n (d .rank) (d .memory) task l b .result .flagged)))
       d
       (record { rank = readBy n (d .rank) (d .memory) task l b .result .rank; memory = readBy n (d .rank) (d .memory) task l b .memory })
-  unfolding readBy readResult visitOf reportOf
+  unfolding readBy resultOf visitOf reportOf
   read-grown zero d l b f =
       let bytes : List ℕ = lineAt (d .memory) l in
       let cws : List ℕ = d .rank .«catch_words» in

@@ -2,7 +2,6 @@
 -- refuse with 21, and the two stay related. This serves read and patrol; patrol makes a list of such visits.
 -- Assumes nothing.
 use mathlib.Core.Path.{_≡_, refl, sym, ap, _∙_, subst}
-use mathlib.Core.Logic.{⊎-elim}
 use mathlib.Core.Bool.{Bool, true, false, cond}
 use mathlib.Core.List.{List, [], _∷_, map}
 use Prim.Native.Nat.{ℕ, zero, suc, _+_, _*_, _<_, _≤_}
@@ -10,22 +9,23 @@ use native.Mathlib.Omega.{arith}
 use lib.Dec.{eqb}
 use lib.Seq.{take-all}
 use borrow.Author.Tests.{eqb-true}
-use Rattle.line.specs.Cells.{numberOf, bytesOf, bytesFrom, eightAt, lineWord, stored}
+use Rattle.words.specs.Bytes.{numberOf, bytesOf, bytesFrom}
+use Rattle.cells.specs.Cells.{eightAt, lineWord, stored}
 use Rattle.line.specs.Damage.{Parity, Premise as PatternPremise, damages, undone as patternsUndone, wideBeyond as patternsBeyond, answers as patternsAnswer}
-use Rattle.line.specs.Visit.{beyondChips, outcomeOf, wordOf, bytesAfter, reportOf, refusalOf}
-use Rattle.line.specs.VisitLaws.{outcome-ends}
-use Rattle.line.specs.ChipLaws.{joined-ext}
-use Rattle.line.specs.ByteLaws.{bytes-bytesFrom, bytesOf-number}
-use Rattle.line.specs.CellLaws.{joined-blocks, length-eight, lineWord-eight}
+use Rattle.passes.specs.Passes.{beyondChips}
+use Rattle.line.specs.Visit.{outcomeOf, wordOf, bytesAfter, reportOf}
+use Rattle.cells.specs.ChipLaws.{joined-ext}
+use Rattle.words.specs.ByteLaws.{bytes-bytesFrom, bytesOf-number}
+use Rattle.cells.specs.CellLaws.{joined-blocks, length-eight, lineWord-eight}
 use Rattle.line.specs.DamageLaws.{line-parity, visit-outcome, visit-bytes, visit-word, visit-beyond}
 use Rattle.line.specs.declared.Report.{Report}
 use Rattle.line.specs.declared.Outcome.{Outcome}
 use Rattle.line.specs.declared.Outcome.the-variants.{Answered, Refused}
-use Rattle.rank.specs.declared.Rank.{Rank}
-use Rattle.rank.specs.Runs.{upFrom, sumOf}
-use Rattle.rank.specs.Lines.{lineAt, withLine}
-use Rattle.rank.specs.Record.{moved, settled, settledBy}
-use Rattle.rank.specs.Calls.{Device, visitOf, foundLine, isRefused}
+use Rattle.record.specs.declared.Rank.{Rank}
+use Rattle.visits.specs.Runs.{upFrom, sumOf}
+use Rattle.memory.specs.Lines.{lineAt, withLine}
+use Rattle.record.specs.Record.{moved, settled, settledBy}
+use Rattle.visits.specs.Visits.{Device, visitOf, foundLine, isRefused}
 use Rattle.claims.specs.Lists.{All}
 use Rattle.claims.specs.Plain as P
 use Rattle.claims.specs.Plain.{Line, Plain, whole, damage, damagedChips, undone, wideBeyond, answers, visitBy, plainVisit}
@@ -79,16 +79,6 @@ module _ (x : Line) (f : Formed x) (h : Premise x) (cws : List ℕ) where
           ∙ lineWord-eight (x .bytes) (f .size) k l)
           ∙ bytesOf-number (bytesFrom 8 (8 * k) (x .bytes)) 8 (bytes-bytesFrom 8 (8 * k) (x .bytes) (f .bytes))
           (length-eight (x .bytes) (f .size) k l)
-
--- ---- the outcome of a visit
-
--- a visit that has no number is answered: its only refusals are 20 and 21
-pub visit-answered : (m cws : List ℕ) → refusalOf (outcomeOf m cws) ≡ 0 → outcomeOf m cws ≡ Answered
-unfolding refusalOf
-visit-answered m cws z = ⊎-elim (λ e. e) (⊎-elim (refuses 19) (refuses 20)) (outcome-ends m cws)
-  where
-    refuses : (n : ℕ) → outcomeOf m cws ≡ Refused (suc n) → outcomeOf m cws ≡ Answered
-    refuses n e = let none : suc n ≡ 0 = sym (ap refusalOf e) ∙ z in absurd (omega arith)
 
 -- ---- the record after a visit
 

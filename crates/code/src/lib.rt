@@ -5,9 +5,6 @@ ghost use Prim.Native.Nat.{_*_, _/_};
 ghost use Rattle.code.specs.Code.{cell, timesX, syndromeOf, isCodeword, checkOf, positionOf, bitAt, mendedWord, statusAt, statusOf, isBeyond};
 ghost use Rattle.code.specs.Fold.{Folded};
 
-pub mod lanes;
-pub mod marked;
-
 // What a chip tells of a word sent with Enable clear, in document 02's words. Sound: it holds a codeword. Mended: one bit was inverted.
 // Beyond mending: it holds no codeword, and nothing was inverted.
 pub enum Status {

@@ -1,60 +1,30 @@
 -- What the steps of a visit come to, as the code makes them. m stands for the line's bytes, cws for the catch-words. Assumes nothing.
 use mathlib.Core.Path.{_≡_, refl, sym, ap, ap₂, _∙_}
-use mathlib.Core.Bool.{Bool, true, false, not, _&&_, cond}
+use mathlib.Core.Bool.{Bool, true, false, cond}
 use mathlib.Core.List.{List}
 use Prim.Native.Nat.{ℕ, zero, suc, _+_, _<_, _≤_}
 use native.Mathlib.Omega.{arith}
 use lib.Bits.{bitAnd, bitXor, xor-comm, xor-zero-r}
 use lib.Count.{ones}
 use lib.Dec.{eqb, ltb}
-use lib.ListN.{length, getD}
+use lib.ListN.{getD}
 use borrow.Author.Tests.{eqb-true, eqb-false, lt-ltb}
 use Rattle.code.specs.Code.{mendedWord, isBeyond}
 use Rattle.code.specs.XorLaws.{xor-cancel, xor-cancel-r}
-use Rattle.line.specs.Chips.{ofChips, joined, xorAll, bit, count, mask, inMask}
-use Rattle.line.specs.ChipLaws.{and-first, getD-ofChips, joined-ext, xorAll-ext, xorAll-but, count-none, count-le, ones-mask, and-masks, rest-mask, mask-ext, mask-zero, mask-count, count-mask}
-use Rattle.line.specs.Cells.{cellAt, chipAt, codeword}
-use Rattle.line.specs.CellLaws.{chips-line}
-use Rattle.line.specs.Visit.{catchWord, passOne, passThree, toldAt, isFlaggedBeyond, beyondChips, thirdOutcome, thirdWord, isCandidate, follows, isFlagged, isCollision, flaggedChips, mustCancel, xorOthers, outcomeBy, outcomeOf, wordBy, wordOf, withWords, writtenBack, bytesBy, bytesAfter, passesOf, reportOf}
-use Rattle.line.specs.VisitLaws.{flagged-mask, third-sent}
-use Rattle.line.specs.Scan.{unsound}
-use Rattle.line.proofs.Loops.{member-is}
+use Rattle.cells.specs.Chips.{ofChips, joined, xorAll, bit, count, mask, inMask}
+use Rattle.code.specs.TestLaws.{and-first}
+use Rattle.cells.specs.ChipLaws.{getD-ofChips, joined-ext, xorAll-ext, xorAll-but, count-none, count-le, ones-mask, and-masks, mask-count, count-mask}
+use Rattle.cells.specs.Cells.{cellAt, chipAt, codeword}
+use Rattle.passes.specs.Passes.{catchWord, passOne, passThree, toldAt, isFlaggedBeyond, beyondChips, isCandidate, follows, isFlagged, isCollision, flaggedChips, xorOthers}
+use Rattle.line.specs.Visit.{thirdOutcome, thirdWord, mustCancel, outcomeBy, outcomeOf, wordBy, wordOf, withWords, writtenBack, bytesBy, bytesAfter, passesOf, reportOf}
+use Rattle.passes.specs.PassLaws.{third-sent}
+use Rattle.cells.proofs.Loops.{member-is}
 use Rattle.line.specs.declared.Report.{Report}
 use Rattle.line.specs.declared.Outcome.{Outcome}
 use Rattle.line.specs.declared.Outcome.the-variants.{Answered, Refused}
-
--- ---- pass one and pass two
-
--- the chips that are not in a mask
-others : (p : ℕ → Bool) → bitXor (mask p 9) 511 ≡ mask (λ k. not (p k)) 9
-unfolding mask
-others p = xor-comm (mask p 9) 511 ∙ rest-mask (λ k. true) p 9
-
-other : (a b : Bool) → (a && not (a && b)) ≡ (a && not b)
-other true b = refl
-other false b = refl
-
-twice : (a b : Bool) → (a && (a && b)) ≡ (a && b)
-twice true b = refl
-twice false b = refl
+use Rattle.passes.proofs.Masks.{collisions-rest}
 
 module _ (m cws : List ℕ) where
-  -- the candidates that are not flagged are the collisions
-  pub collisions-rest : bitAnd (mask (isCandidate m cws) 9) (bitXor (mask (isFlagged m cws) 9) 511) ≡ mask (isCollision m cws) 9
-  unfolding isFlagged isCollision
-  collisions-rest =
-      ap (bitAnd (mask (isCandidate m cws) 9)) (others (isFlagged m cws))
-      ∙ and-masks (isCandidate m cws) (λ k. not (isFlagged m cws k)) 9
-      ∙ mask-ext _ (isCollision m cws) 9 (λ k l. other (isCandidate m cws k) (follows m cws k))
-
-  -- the candidates that hold no codeword are the flagged chips
-  pub flagged-bad : bitAnd (mask (isCandidate m cws) 9) (mask (unsound m) 9) ≡ mask (isFlagged m cws) 9
-  unfolding isFlagged
-  flagged-bad =
-      ap (bitAnd (mask (isCandidate m cws) 9)) (sym (flagged-mask m cws))
-      ∙ and-masks (isCandidate m cws) (isFlagged m cws) 9
-      ∙ mask-ext _ (isFlagged m cws) 9 (λ k l. twice (isCandidate m cws k) (follows m cws k))
-
   -- none flagged: pass two was made if there were candidates
   pub few-passes : {c n : ℕ} → flaggedChips m cws ≡ 0 → c ≡ mask (isCandidate m cws) 9 → n ≡ cond (eqb c 0) 1 2 → n ≡ passesOf m cws
   unfolding passesOf
@@ -252,34 +222,6 @@ module _ (m cws : List ℕ) where
       → report o p f x ≡ reportOf m cws
   unfolding reportOf
   reported eo ep ef ex = λ i. record { outcome = eo i; passes = ep i; flagged = ef i; collisions = ex i }
-
-  -- no candidates, and the words xor to zero: a clean line
-  module _ (none : mask (isCandidate m cws) 9 ≡ 0) where
-    no-candidate : (k : ℕ) (b : Bool) → k < 9 → (isCandidate m cws k && b) ≡ false
-    no-candidate k b l =
-        ap (λ (a : Bool). a && b) (count-none (isCandidate m cws) 9 (mask-count (isCandidate m cws) 9 none) k l)
-
-    no-flag : mask (isFlagged m cws) 9 ≡ 0
-    unfolding isFlagged
-    no-flag = mask-zero (isFlagged m cws) 9 (λ k l. no-candidate k (follows m cws k) l)
-
-    no-collision : mask (isCollision m cws) 9 ≡ 0
-    unfolding isCollision
-    no-collision = mask-zero (isCollision m cws) 9 (λ k l. no-candidate k (not (follows m cws k)) l)
-
-    pub clean-report : xorAll (passOne m cws) 9 ≡ 0 → report Answered 1 0 0 ≡ reportOf m cws
-    unfolding ones
-    clean-report z =
-        reported (none-outcome m cws 0 (sym no-flag) 0 (sym z) refl refl)
-        (few-passes m cws (sym (chips m cws 0 (sym no-flag))) (sym none) refl) (sym no-flag) (sym no-collision)
-
-    pub clean-bytes : length m ≡ 81 → m ≡ bytesAfter m cws
-    unfolding bytesAfter bytesBy writtenBack withWords isFlagged
-    clean-bytes size = go (outcomeOf m cws)
-      where
-        go : (o : Outcome) → m ≡ bytesBy o m cws
-        go Answered = sym (chips-line m size) ∙ joined-ext (chipAt m) _ 9 (λ k l. rw (no-candidate k (follows m cws k) l))
-        go (Refused n) = refl
 
   -- any line: the report, by what steps 1 to 5 gave
   module _ {f : ℕ} (ef : f ≡ mask (isFlagged m cws) 9) {o : Outcome} (eo : o ≡ outcomeOf m cws) where

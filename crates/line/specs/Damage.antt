@@ -8,17 +8,18 @@ use mathlib.Core.List.{List}
 use lib.Dec.{eqb, leb, ltb}
 use lib.Count.{ones}
 use Rattle.code.specs.Code.{isCodeword, mendedWord, statusOf, isBeyond}
-use Rattle.line.specs.Chips.{joined, xorAll, count}
-use Rattle.line.specs.Cells.{codeword, xorBytes}
+use Rattle.cells.specs.Chips.{joined, xorAll, count}
+use Rattle.cells.specs.Cells.{chips, codeword}
+use Rattle.words.specs.Bytes.{xorBytes}
 
 -- nine codewords, each xored with its chip's pattern
 unfoldable pub damaged : (ℕ → ℕ) → (ℕ → List ℕ) → List ℕ
-damaged w q = joined (λ k. xorBytes (codeword (w k)) (q k)) 9
+damaged w q = joined (λ k. xorBytes (codeword (w k)) (q k)) chips
 
 -- the words of a stored line: each fits in 64 bits, and chip 8's is the xor of the others
 pub record Parity (w : ℕ → ℕ) : Type 0 where
-  pub fit : (k : ℕ) → k < 9 → w k < 2 ^ 64
-  pub sum : xorAll w 9 ≡ 0
+  pub fit : (k : ℕ) → k < chips → w k < 2 ^ 64
+  pub sum : xorAll w chips ≡ 0
 
 -- pattern k is wide, document 02's term: more than one bit is set
 abbrev pub wide : (ℕ → ℕ) → ℕ → Bool
@@ -30,20 +31,20 @@ beyond p k = isBeyond (statusOf (p k))
 
 -- the premise for the nine patterns: none other than zero is a codeword, and at most one has more than one bit set
 pub record Premise (p : ℕ → ℕ) : Type 0 where
-  pub detected : (k : ℕ) → k < 9 → isCodeword (p k) ≡ true → p k ≡ 0
-  pub oneWide : count (wide p) 9 ≤ 1
+  pub detected : (k : ℕ) → k < chips → isCodeword (p k) ≡ true → p k ≡ 0
+  pub oneWide : count (wide p) chips ≤ 1
 
 -- how many chips are damaged
 unfoldable pub damages : (ℕ → ℕ) → ℕ
-damages p = count (λ k. not (eqb (p k) 0)) 9
+damages p = count (λ k. not (eqb (p k) 0)) chips
 
 -- M of every pattern is the zero word
 unfoldable pub undone : (ℕ → ℕ) → Bool
-undone p = eqb (count (λ k. not (eqb (mendedWord (p k)) 0)) 9) 0
+undone p = eqb (count (λ k. not (eqb (mendedWord (p k)) 0)) chips) 0
 
 -- the one wide pattern is beyond mending: just one is wide, and it is
 unfoldable pub wideBeyond : (ℕ → ℕ) → Bool
-wideBeyond p = eqb (count (wide p) 9) 1 && eqb (count (λ k. wide p k && beyond p k) 9) 1
+wideBeyond p = eqb (count (wide p) chips) 1 && eqb (count (λ k. wide p k && beyond p k) chips) 1
 
 -- with no or one damaged chip a visit answers; with more it answers if M of every pattern is the zero word, and also if the one wide
 -- pattern is beyond mending

@@ -16,15 +16,18 @@ use Rattle.code.specs.Code.{cell, checkOf, syndromeOf, isCodeword, mendedWord, 
 use Rattle.code.specs.CodeLaws.{cell-word, check-lt, check-makes, codeword-damaged, syndrome-zero, syndrome-codeword}
 use Rattle.code.specs.MendLaws.{mendedWord-damaged, mendedWord-narrow}
 use Rattle.code.specs.StatusLaws.{status-damaged, beyond-wide}
-use Rattle.line.specs.Chips.{xorAll, count}
-use Rattle.line.specs.Cells.{numberOf, cellAt, chipAt, codeword, withChip, xorBytes, eightAt, lineWord, stored, lineOf}
-use Rattle.line.specs.ByteLaws.{Bytes, number-lt, number-xor, zeros-only, length-xor, xor-zeros, xor-bytes-assoc}
-use Rattle.line.specs.CellLaws.{length-joined, chip-joined, same-chips, length-chip, cell-number, length-withChip, chip-laid, chip-other, length-codeword, bytes-codeword, number-codeword, lineWord-eight, lineWord-parity, eight-lt, line-stored}
+use Rattle.cells.specs.Chips.{xorAll, count}
+use Rattle.words.specs.Bytes.{numberOf, xorBytes}
+use Rattle.cells.specs.Cells.{cellAt, chipAt, codeword, withChip, eightAt, lineWord, stored, lineOf}
+use Rattle.words.specs.ByteLaws.{Bytes, number-lt, number-xor, zeros-only, length-xor, xor-zeros, xor-bytes-assoc}
+use Rattle.cells.specs.CellLaws.{length-joined, chip-joined, same-chips, length-chip, cell-number, length-withChip, chip-laid, chip-other, length-codeword, bytes-codeword, number-codeword, lineWord-eight, lineWord-parity, eight-lt, line-stored}
 use Rattle.line.specs.Damage.{damaged, Parity, wide, beyond, Premise, damages, undone, wideBeyond, answers}
-use Rattle.line.specs.ChipLaws.{and-second, and-shown, last, joined-ext, xorAll-ext, xorAll-lt, xorAll-xor, xorAll-few, count-ext, count-none, count-one, count-le, count-all}
-use Rattle.line.specs.Visit.{isFlagged, mustCancel, xorOthers, toldAt, beyondChips, outcomeOf, wordOf, bytesAfter}
-use Rattle.line.specs.Scan.{unsound}
-use Rattle.line.specs.VisitLaws.{heldWord, mendedAt, beyondAt, thirdOutcomeWith, thirdWordWith, outcomeWith, wordWith, bytesWith, outcomeFor, wordFor, bytesFor, flagged-is, others-ext, others-cancel, others-sound, beyond-chips-count, outcome-is, word-is, bytes-is}
+use Rattle.code.specs.TestLaws.{and-second}
+use Rattle.cells.specs.ChipLaws.{and-shown, last, joined-ext, xorAll-ext, xorAll-lt, xorAll-xor, xorAll-few, count-ext, count-none, count-one, count-le, count-all}
+use Rattle.passes.specs.Passes.{isFlagged, xorOthers, toldAt, beyondChips, unsound}
+use Rattle.line.specs.Visit.{mustCancel, outcomeOf, wordOf, bytesAfter}
+use Rattle.passes.specs.PassLaws.{heldWord, mendedAt, beyondAt, flagged-is, others-ext, others-cancel, others-sound, beyond-chips-count}
+use Rattle.line.specs.VisitLaws.{thirdOutcomeWith, thirdWordWith, outcomeWith, wordWith, bytesWith, outcomeFor, wordFor, bytesFor, outcome-is, word-is, bytes-is}
 use Rattle.line.specs.declared.Outcome.{Outcome}
 use Rattle.line.specs.declared.Outcome.the-variants.{Answered, Refused}
 

@@ -4,8 +4,10 @@
 use mathlib.Core.Path.{_≡_}
 use Prim.Native.Nat.{ℕ, zero, suc, _<_}
 use mathlib.Core.List.{List}
-use Rattle.line.specs.Chips.{mask}
-use Rattle.line.specs.Visit.{isFlagged, isCollision, flaggedChips, mustCancel, passThree, outcomeBy, wordBy, wordOf, withWords, bytesAfter, passesOf, reportOf}
+use Rattle.cells.specs.Cells.{chips}
+use Rattle.cells.specs.Chips.{mask}
+use Rattle.passes.specs.Passes.{isFlagged, isCollision, flaggedChips, passThree}
+use Rattle.line.specs.Visit.{mustCancel, outcomeBy, wordBy, wordOf, withWords, bytesAfter, passesOf, reportOf}
 use Rattle.line.specs.declared.Report.{Report}
 use Rattle.line.specs.declared.Outcome.{Outcome}
 use Rattle.line.specs.declared.Outcome.the-variants.{Answered, Refused}
@@ -40,12 +42,12 @@ formerReport m cws =
     record {
       outcome = formerOutcome m cws;
       passes = passesOf m cws;
-      flagged = mask (isFlagged m cws) 9;
-      collisions = mask (isCollision m cws) 9;
+      flagged = mask (isFlagged m cws) chips;
+      collisions = mask (isCollision m cws) chips;
     }
 
 -- a visit reports, finds and leaves what it did before
 pub record AsBefore (m cws : List ℕ) : Type 0 where
   pub report : reportOf m cws ≡ formerReport m cws
-  pub word : (k : ℕ) → k < 9 → wordOf m cws k ≡ formerWord m cws k
+  pub word : (k : ℕ) → k < chips → wordOf m cws k ≡ formerWord m cws k
   pub bytes : bytesAfter m cws ≡ formerBytes m cws

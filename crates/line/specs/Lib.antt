@@ -1,16 +1,7 @@
-pub mod Chips
-pub mod Cells
 pub mod Visit
-pub mod Checks
-pub mod Scan
 pub mod Damage
 pub mod Former
-pub mod ChipLaws
-pub mod ByteLaws
-pub mod CellLaws
-pub mod CheckLaws
-pub mod ArrayLaws
 pub mod VisitLaws
-pub mod ScanLaws
+pub mod CleanLaws
 pub mod FormerLaws
 pub mod DamageLaws

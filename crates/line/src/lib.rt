@@ -1,5 +1,5 @@
-// The nine chips of one line in its 81 lent bytes, and a visit to it (document 01, "A visit to a line"; step 5 as document 02's Req 02
-// has it).
+// A visit to a line in its 81 lent bytes (document 01, "A visit to a line"; step 5 as document 02's Req 02 has it). What a visit does to the
+// record is in crate `record`.
 ghost use mathlib.Core.Path.{_≡_};
 ghost use mathlib.Core.Bool.{cond};
 ghost use Prim.Native.Nat.{_<_};
@@ -7,29 +7,27 @@ ghost use lib.Bits.{bitXor};
 ghost use lib.Count.{ones};
 ghost use lib.Dec.{eqb};
 ghost use lib.ListN.{length, getD};
-ghost use Rattle.line.specs.Chips.{ofChips, joined, xorAll, mask, inMask};
-ghost use Rattle.line.specs.Cells.{chipAt, codeword};
-ghost use Rattle.line.specs.Visit.{catchWord, passOne, isCandidate, isFlagged, outcomeOf, withWords, writtenBack, bytesAfter, passesOf, reportOf, refusalOf};
-ghost use Rattle.line.specs.Scan.{unsound};
+ghost use Rattle.cells.specs.Chips.{ofChips, joined, xorAll, mask, inMask};
+ghost use Rattle.cells.specs.Cells.{chips, lineBytes, chipAt, codeword};
+ghost use Rattle.passes.specs.Passes.{catchWord, passOne, isCandidate, isFlagged, unsound};
+ghost use Rattle.line.specs.Visit.{outcomeOf, withWords, writtenBack, bytesAfter, passesOf, reportOf, refusalOf};
 ghost use Rattle.line.specs.declared.Outcome.the-variants.{Answered, Refused};
-
-pub mod cells;
-mod checks;
-mod chips;
-mod first;
-pub mod masks;
-mod scan;
-mod second;
-mod sound;
-mod third;
-
-use first::Heard;
+use cells::CHIPS;
+use cells::masks;
+use passes::first;
+use passes::first::Heard;
+use passes::second;
+use passes::sound;
+use passes::third;
 
 // Refusals of a visit, by their number in document 01: none flagged and the words don't xor to zero; two or more flagged, and two or more of
 // them are beyond mending, or none is and the mended words don't xor to zero.
 const PARITY: u32 = 20;
 
 const MENDED: u32 = 21;
+
+// The mask of all nine chips.
+const ALL_CHIPS: u32 = 0x1ff;
 
 // How a visit ends: with the line, or with the number of a refusal.
 pub enum Outcome {
@@ -46,20 +44,11 @@ pub struct Report {
 }
 
 // A visit to a line. The chips' registers equal the catch-words. What the report does to the record is left to the caller.
-pub fn visit(line: &mut [u8], catch_words: &[u64; 9]) -> Report
-    requires { ⌜ (length (now line) ≡ 81) × (length (now «catch_words») ≡ 9) ⌝ }
+pub fn visit(line: &mut [u8], catch_words: &[u64; CHIPS]) -> Report
+    requires { ⌜ (length (now line) ≡ lineBytes) × (length (now «catch_words») ≡ chips) ⌝ }
     ensures report { λ r. ⌜ r ≡ reportOf (now (line .entry)) (now («catch_words» .entry)) ⌝ }
     ensures bytes { λ _. ⌜ now (line .exit) ≡ bytesAfter (now (line .entry)) (now («catch_words» .entry)) ⌝ }
 {
-    // A clean line has no candidates and words that xor to zero, so that steps 2 to 6 leave it as it is.
-    if scan::is_clean(line, catch_words) {
-        return Report {
-            outcome: Outcome::Answered,
-            passes: 1,
-            flagged: 0,
-            collisions: 0,
-        };
-    }
     // Whether a chip holds a codeword is worked out once, for all passes.
     let bad = sound::bad_chips(line);
     // Step 1.
@@ -67,7 +56,7 @@ pub fn visit(line: &mut [u8], catch_words: &[u64; 9]) -> Report
     let candidates = heard.candidates;
     // Step 2. Without candidates none is flagged.
     let flagged = second::pass(line, catch_words, bad, candidates);
-    let collisions = candidates & (flagged ^ masks::CHIPS);
+    let collisions = candidates & (flagged ^ ALL_CHIPS);
     // Steps 3 to 5.
     let found = resolve(line, catch_words, bad, heard, flagged);
     let outcome = found.outcome;
@@ -106,31 +95,31 @@ pub fn refusal(outcome: Outcome) -> u32
 struct Found {
     outcome: Outcome,
     passes: u32,
-    words: [u64; 9],
+    words: [u64; CHIPS],
 }
 
 // Steps 3 to 5, by how many chips are flagged.
-fn resolve(line: &[u8], catch_words: &[u64; 9], bad: u32, heard: Heard, flagged: u32) -> Found
-    requires sizes { ⌜ (length (now line) ≡ 81) × (length (now «catch_words») ≡ 9) ⌝ }
-    requires bad { ⌜ bad ≡ mask (unsound (now line)) 9 ⌝ }
-    requires candidates { ⌜ heard .candidates ≡ mask (isCandidate (now line) (now «catch_words»)) 9 ⌝ }
-    requires parity { ⌜ heard .parity ≡ xorAll (passOne (now line) (now «catch_words»)) 9 ⌝ }
-    requires flagged { ⌜ flagged ≡ mask (isFlagged (now line) (now «catch_words»)) 9 ⌝ }
+fn resolve(line: &[u8], catch_words: &[u64; CHIPS], bad: u32, heard: Heard, flagged: u32) -> Found
+    requires sizes { ⌜ (length (now line) ≡ lineBytes) × (length (now «catch_words») ≡ chips) ⌝ }
+    requires bad { ⌜ bad ≡ mask (unsound (now line)) chips ⌝ }
+    requires candidates { ⌜ heard .candidates ≡ mask (isCandidate (now line) (now «catch_words»)) chips ⌝ }
+    requires parity { ⌜ heard .parity ≡ xorAll (passOne (now line) (now «catch_words»)) chips ⌝ }
+    requires flagged { ⌜ flagged ≡ mask (isFlagged (now line) (now «catch_words»)) chips ⌝ }
     ensures outcome { λ r. ⌜ r .outcome ≡ outcomeOf (now (line .entry)) (now («catch_words» .entry)) ⌝ }
     ensures passes { λ r. ⌜ r .passes ≡ passesOf (now (line .entry)) (now («catch_words» .entry)) ⌝ }
     ensures words { λ r. ⌜ withWords (λ k. getD (r .words) k 0) (now (line .entry)) (now («catch_words» .entry)) ≡ writtenBack (now (line .entry)) (now («catch_words» .entry)) ⌝ }
 {
-    let chips = u32::count_ones(flagged);
-    if chips == 0 {
+    let flags = u32::count_ones(flagged);
+    if flags == 0 {
         let outcome = must_cancel(heard.parity, PARITY);
         let passes = passes_to_two(heard.candidates);
         return Found {
             outcome,
             passes,
-            words: [0u64; 9],
+            words: [0u64; CHIPS],
         };
     }
-    if chips == 1 {
+    if flags == 1 {
         let words = rebuilt(catch_words, heard.parity);
         return Found {
             outcome: Outcome::Answered,
@@ -142,10 +131,10 @@ fn resolve(line: &[u8], catch_words: &[u64; 9], bad: u32, heard: Heard, flagged:
 }
 
 // Step 5, by how many of the flagged chips are beyond mending (document 02, Req 02). The catch-words are given for the contract alone.
-fn mend_flagged(line: &[u8], catch_words: &[u64; 9], bad: u32, flagged: u32) -> Found
-    requires sizes { ⌜ (length (now line) ≡ 81) × (length (now «catch_words») ≡ 9) ⌝ }
-    requires bad { ⌜ bad ≡ mask (unsound (now line)) 9 ⌝ }
-    requires flagged { ⌜ flagged ≡ mask (isFlagged (now line) (now «catch_words»)) 9 ⌝ }
+fn mend_flagged(line: &[u8], catch_words: &[u64; CHIPS], bad: u32, flagged: u32) -> Found
+    requires sizes { ⌜ (length (now line) ≡ lineBytes) × (length (now «catch_words») ≡ chips) ⌝ }
+    requires bad { ⌜ bad ≡ mask (unsound (now line)) chips ⌝ }
+    requires flagged { ⌜ flagged ≡ mask (isFlagged (now line) (now «catch_words»)) chips ⌝ }
     requires several { ⌜ 1 < ones flagged ⌝ }
     ensures outcome { λ r. ⌜ r .outcome ≡ outcomeOf (now (line .entry)) (now («catch_words» .entry)) ⌝ }
     ensures passes { λ r. ⌜ r .passes ≡ passesOf (now (line .entry)) (now («catch_words» .entry)) ⌝ }
@@ -198,12 +187,12 @@ fn must_cancel(parity: u64, number: u32) -> Outcome
 }
 
 // At each chip's place, its word if it is the one chip flagged: that chip sent its catch-word, which is taken off the xor of all nine.
-fn rebuilt(catch_words: &[u64; 9], parity: u64) -> [u64; 9]
-    requires { ⌜ length (now «catch_words») ≡ 9 ⌝ }
-    ensures { λ r. ⌜ r ≡ ofChips (λ k. bitXor parity (catchWord (now («catch_words» .entry)) k)) 9 ⌝ }
+fn rebuilt(catch_words: &[u64; CHIPS], parity: u64) -> [u64; CHIPS]
+    requires { ⌜ length (now «catch_words») ≡ chips ⌝ }
+    ensures { λ r. ⌜ r ≡ ofChips (λ k. bitXor parity (catchWord (now («catch_words» .entry)) k)) chips ⌝ }
 {
-    let mut words = [0u64; 9];
-    for k in 0..9 {
+    let mut words = [0u64; CHIPS];
+    for k in 0..CHIPS {
         let own = catch_words[k];
         words[k] = parity ^ own;
     }
@@ -211,11 +200,11 @@ fn rebuilt(catch_words: &[u64; 9], parity: u64) -> [u64; 9]
 }
 
 // Each flagged chip gets its word and check byte.
-fn write_back(line: &mut [u8], flagged: u32, words: [u64; 9])
-    requires { ⌜ length (now line) ≡ 81 ⌝ }
-    ensures { λ _. ⌜ now (line .exit) ≡ joined (λ k. cond (inMask flagged k) (codeword (getD words k 0)) (chipAt (now (line .entry)) k)) 9 ⌝ }
+fn write_back(line: &mut [u8], flagged: u32, words: [u64; CHIPS])
+    requires { ⌜ length (now line) ≡ lineBytes ⌝ }
+    ensures { λ _. ⌜ now (line .exit) ≡ joined (λ k. cond (inMask flagged k) (codeword (getD words k 0)) (chipAt (now (line .entry)) k)) chips ⌝ }
 {
-    for k in 0..9 {
+    for k in 0..CHIPS {
         let flag = masks::member(flagged, k);
         cells::lay_if(flag, line, k, words[k]);
     }

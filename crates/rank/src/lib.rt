@@ -1,68 +1,17 @@
-// The rank: the record, the refusals and the six calls that firmware links (document 01, "The rank" and "The calls"). No call has a
-// `requires`: each says for every input what it returns and what every byte lent to be written is afterwards. What is lent by `&` can't be
-// written.
+// The six calls that firmware links (document 01, "The calls"): each is tested for its refusals, and its work is done by a crate below. No
+// call has a `requires`: each says for every input what it returns and what every byte lent to be written is afterwards. What is lent by `&`
+// can't be written.
 ghost use mathlib.Core.Path.{_≡_};
-ghost use Rattle.rank.specs.Record.{fresh};
 ghost use Rattle.rank.specs.Calls.{bootOf, writeOf, readOf, patrolOf, renewOf, faultOf};
-
-mod lines;
-mod read;
-mod record;
-mod refusals;
-mod sweep;
-
-// The record, held by value: N, the Enable bit, the catch-words as the controller knows them, the registers as the chips hold them, and a
-// repair total for each task.
-#[repr(C)]
-pub struct Rank {
-    pub lines: u32,
-    pub enable: bool,
-    pub catch_words: [u64; 9],
-    pub registers: [u64; 9],
-    pub repairs: [u32; 8],
-}
-
-impl Rank {
-    // The most lines that a rank can have.
-    pub const LINE_LIMIT: u32 = 65536;
-
-    // Tasks are 0 to 7.
-    pub const TASK_LIMIT: u32 = 8;
-
-    // Where a repair total stops.
-    pub const REPAIR_LIMIT: u32 = 4294967295;
-
-    // What a colliding chip's catch-word grows by.
-    pub const CATCH_WORD_STEP: u64 = 0x9E37_79B9_7F4A_7C15;
-
-    // Every field zero.
-    pub fn fresh() -> Self
-        ensures { λ r. ⌜ r ≡ fresh ⌝ }
-    {
-        Rank {
-            lines: 0,
-            enable: false,
-            catch_words: [0u64; 9],
-            registers: [0u64; 9],
-            repairs: [0u32; 8],
-        }
-    }
-}
+use record::Rank;
+use visits::ReadResult;
+use visits::read;
+use visits::sweep;
 
 // What boot, write, renew and fault return: a refusal by its number in document 01, 0 for none, and the record.
 #[repr(C)]
 pub struct Called {
     pub refusal: u32,
-    pub rank: Rank,
-}
-
-// What a read returns: also the passes made and the flagged and collision masks, bit K for chip K.
-#[repr(C)]
-pub struct ReadResult {
-    pub refusal: u32,
-    pub passes: u32,
-    pub flagged: u32,
-    pub collisions: u32,
     pub rank: Rank,
 }
 
@@ -89,7 +38,7 @@ pub extern "C" fn rank_boot(memory: &mut [u8], catch_words: &[u64]) -> Called
             rank: Rank::fresh(),
         };
     }
-    lines::clear(memory);
+    memory::clear(memory);
     Called {
         refusal: 0,
         rank: record::booted(memory, catch_words),
@@ -106,7 +55,7 @@ pub extern "C" fn rank_write(rank: Rank, memory: &mut [u8], line: u32, bytes: &[
     if refusal != 0 {
         return Called { refusal, rank };
     }
-    lines::lay(memory, line, bytes);
+    memory::lay(memory, line, bytes);
     Called { refusal: 0, rank }
 }
 
@@ -202,6 +151,6 @@ pub extern "C" fn rank_fault(
     if refusal != 0 {
         return Called { refusal, rank };
     }
-    lines::xor_into(memory, line, chip, pattern);
+    memory::xor_into(memory, line, chip, pattern);
     Called { refusal: 0, rank }
 }

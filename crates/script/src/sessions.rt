@@ -2,11 +2,11 @@
 ghost use mathlib.Core.Path.{_≡_};
 ghost use Prim.Native.Nat.{_+_, _-_, _≤_, _<_};
 ghost use lib.ListN.{length, take};
-ghost use Rattle.script.specs.Texts.{Laid};
+ghost use Rattle.texts.specs.Texts.{Laid};
 ghost use Rattle.script.specs.Sessions.{Advance, Finish};
-use super::answer;
-use super::fields::line_end;
-use rank::Rank;
+use answers::answer;
+use bytes::scan::find;
+use record::Rank;
 
 // The bytes that are kept of a line. A longer line is no event, and neither are its first 41 bytes.
 pub const KEPT: usize = 41;
@@ -71,7 +71,7 @@ fn step(p: Progress, memory: &mut [u8], line: &mut [u8], bytes: &[u8], out: &mut
     let from = p.taken;
     let used = p.length;
     let before = p.rank;
-    let end = line_end(bytes, from);
+    let end = find(bytes, from, bytes.len(), b'\n');
     let kept = keep(line, p.kept, &bytes[from..end]);
     if end == bytes.len() {
         return Progress {
@@ -94,24 +94,12 @@ fn step(p: Progress, memory: &mut [u8], line: &mut [u8], bytes: &[u8], out: &mut
 // Puts bytes behind the first n of a line, as many as there is room for. Answers how many the line has then.
 fn keep(line: &mut [u8], n: usize, bytes: &[u8]) -> usize
     requires { ⌜ n ≤ length (now line) ⌝ }
-    ensures { λ r. ⌜ Laid (now (line .entry)) n (take (length (now (line .entry)) - n) (now (bytes .entry))) (now (line .exit)) r ⌝ }
+    ensures laid { λ r. ⌜ Laid (now (line .entry)) n (take (length (now (line .entry)) - n) (now (bytes .entry))) (now (line .exit)) r ⌝ }
+    ensures within { λ r. ⌜ r ≤ length (now (line .entry)) ⌝ }
 {
     let room = line.len() - n;
     if bytes.len() <= room {
-        return copy_in(line, n, bytes);
+        return texts::put(line, n, bytes);
     }
-    copy_in(line, n, &bytes[..room])
-}
-
-// Lays bytes from a place on. Answers the place behind them.
-fn copy_in(line: &mut [u8], at: usize, bytes: &[u8]) -> usize
-    requires { ⌜ at + length (now bytes) ≤ length (now line) ⌝ }
-    ensures { λ r. ⌜ Laid (now (line .entry)) at (now (bytes .entry)) (now (line .exit)) r ⌝ }
-{
-    let mut i = 0;
-    while i < bytes.len() {
-        line[at + i] = bytes[i];
-        i += 1;
-    }
-    at + i
+    texts::put(line, n, &bytes[..room])
 }

@@ -1,0 +1,169 @@
+-- Laws of the passes: the flagged chips are those that hold no codeword, and the collisions codewords whose word is the catch-word.
+-- Assumes nothing.
+use mathlib.Core.Path.{_≡_, refl, sym, ap, _∙_}
+use mathlib.Core.Bool.{Bool, true, false, not, _&&_, _||_, cond}
+use mathlib.Core.List.{List}
+use Prim.Native.Nat.{ℕ, _/_, _<_}
+use native.Mathlib.Omega.{arith}
+use lib.Dec.{eqb}
+use borrow.Author.Tests.{eq-eqb, ne-eqb, eqb-true, eqb-false, not-false}
+use Rattle.code.specs.Code.{isCodeword, mendedWord, isBeyond}
+use Rattle.code.specs.CodeLaws.{codeword-syndrome}
+use Rattle.code.specs.MendLaws.{mendedWord-codeword}
+use Rattle.code.specs.StatusLaws.{codeword-mends}
+use Rattle.code.specs.XorLaws.{xor-zero-eq}
+use Rattle.cells.specs.Chips.{xorAll, count, mask}
+use Rattle.cells.specs.Cells.{wordAt, cellAt}
+use Rattle.words.specs.ByteLaws.{Bytes}
+use Rattle.cells.specs.CellLaws.{held-word}
+use Rattle.cells.specs.ChipLaws.{xorAll-ext, xorAll-but, count-ext, mask-ext, count-one}
+use Rattle.passes.specs.Passes.{sends, sentAt, catchWord, passOne, isCandidate, complement, passTwo, follows, isFlagged, isCollision, flaggedChips, xorOthers, passThree, toldAt, isFlaggedBeyond, beyondChips, unsound}
+
+-- ---- what a chip holds, by the line alone
+
+-- chip k's word as it stands
+abbrev pub heldWord : List ℕ → ℕ → ℕ
+heldWord m k = cellAt m k / 256
+
+-- M of chip k's nine bytes
+abbrev pub mendedAt : List ℕ → ℕ → ℕ
+mendedAt m k = mendedWord (cellAt m k)
+
+-- chip k is beyond mending
+abbrev pub beyondAt : List ℕ → ℕ → Bool
+beyondAt m k = isBeyond (toldAt m k)
+
+-- chip k holds a codeword whose word is its catch-word
+unfoldable pub matches : List ℕ → List ℕ → ℕ → Bool
+matches m cws k = isCodeword (cellAt m k) && eqb (heldWord m k) (catchWord cws k)
+
+-- ---- what a chip sends
+
+-- a chip that holds a codeword sends its word in pass one, whatever its catch-word
+pub sent-word : (m cws : List ℕ) (k : ℕ) → unsound m k ≡ false → passOne m cws k ≡ cellAt m k / 256
+unfolding unsound passOne sentAt sends
+sent-word m cws k h = rw (not-false (isCodeword (cellAt m k)) h)
+
+-- the same, of bytes
+pub sent-held : (m cws : List ℕ) (k : ℕ) → Bytes m → unsound m k ≡ false → passOne m cws k ≡ wordAt m k
+sent-held m cws k bytes e = sent-word m cws k e ∙ held-word m k bytes
+
+-- any chip sends M of its nine bytes in pass three
+pub third-sent : (m cws : List ℕ) (k : ℕ) → passThree m cws k ≡ mendedAt m k
+unfolding passThree sentAt sends
+third-sent m cws k = refl
+
+-- M of a codeword's nine bytes is its word
+pub sound-mended : (m : List ℕ) (k : ℕ) → unsound m k ≡ false → mendedAt m k ≡ heldWord m k
+unfolding unsound
+sound-mended m k h = mendedWord-codeword (cellAt m k) (codeword-syndrome (cellAt m k) (not-false (isCodeword (cellAt m k)) h))
+
+-- so a chip that holds a codeword sends its word, Enable set or clear
+pub sound-sends : (enable : Bool) (register : ℕ) (m : List ℕ) (k : ℕ) → Bytes m → unsound m k ≡ false → sends enable register (cellAt m k) ≡ wordAt m k
+unfolding sends unsound
+sound-sends true register m k bytes h = rw (not-false (isCodeword (cellAt m k)) h) (held-word m k bytes)
+sound-sends false register m k bytes h = sound-mended m k h ∙ held-word m k bytes
+
+-- a chip that holds a codeword is not beyond mending
+pub sound-mends : (m : List ℕ) (k : ℕ) → unsound m k ≡ false → beyondAt m k ≡ false
+unfolding unsound toldAt
+sound-mends m k h = codeword-mends (cellAt m k) (not-false (isCodeword (cellAt m k)) h)
+
+-- ---- which chips are flagged
+
+first-alone : (p q : Bool) → (p && q) ≡ false → (p && not q) ≡ p
+first-alone true true e = sym e
+first-alone true false e = refl
+first-alone false q e = refl
+
+-- b stands for whether a chip holds a codeword, w for its word, x for its catch-word and y for the complement
+module _ (w x y : ℕ) (ne : x ≡ y → ⊥) where
+  both : (b : Bool) → eqb w x ≡ b → (b && eqb w y) ≡ false
+  both true e = ne-eqb w y (λ f. ne (sym (eqb-true w x e) ∙ f))
+  both false e = refl
+
+  flag-law : (b : Bool) → (eqb (cond b w x) x && eqb (cond b w y) y) ≡ not b
+  flag-law true = both (eqb w x) refl
+  flag-law false = rw (eq-eqb x x refl, eq-eqb y y refl)
+
+  match-law : (b : Bool) → (eqb (cond b w x) x && not (eqb (cond b w y) y)) ≡ (b && eqb w x)
+  match-law true = first-alone (eqb w x) (eqb w y) (both (eqb w x) refl)
+  match-law false = rw (eq-eqb x x refl, eq-eqb y y refl)
+
+candidate-law : (w x : ℕ) (b : Bool) → eqb (cond b w x) x ≡ (not b || (b && eqb w x))
+candidate-law w x true = refl
+candidate-law w x false = eq-eqb x x refl
+
+module _ (m cws : List ℕ) where
+  complement-ne : (k : ℕ) → catchWord cws k ≡ complement cws k → ⊥
+  unfolding complement
+  complement-ne k e = omega arith
+
+  -- the flagged chips are those that hold no codeword
+  pub flagged-is : (k : ℕ) → isFlagged m cws k ≡ unsound m k
+  unfolding isFlagged isCandidate follows passOne passTwo sentAt sends unsound
+  flagged-is k = flag-law (heldWord m k) (catchWord cws k) (complement cws k) (complement-ne k) (isCodeword (cellAt m k))
+
+  -- the collisions are those whose codeword's word is their catch-word
+  pub collides-is : (k : ℕ) → isCollision m cws k ≡ matches m cws k
+  unfolding isCollision isCandidate follows passOne passTwo sentAt sends matches
+  collides-is k = match-law (heldWord m k) (catchWord cws k) (complement cws k) (complement-ne k) (isCodeword (cellAt m k))
+
+  -- the candidates are the chips of both kinds
+  pub candidate-is : (k : ℕ) → isCandidate m cws k ≡ (unsound m k || matches m cws k)
+  unfolding isCandidate passOne sentAt sends unsound matches
+  candidate-is k = candidate-law (heldWord m k) (catchWord cws k) (isCodeword (cellAt m k))
+
+  -- the flagged chips' mask is that of the chips that hold no codeword
+  pub flagged-mask : mask (isFlagged m cws) 9 ≡ mask (unsound m) 9
+  flagged-mask = mask-ext (isFlagged m cws) (unsound m) 9 (λ k _. flagged-is k)
+
+  -- the collisions' mask is that of the chips whose codeword's word is their catch-word
+  pub collisions-mask : mask (isCollision m cws) 9 ≡ mask (matches m cws) 9
+  collisions-mask = mask-ext (isCollision m cws) (matches m cws) 9 (λ k _. collides-is k)
+
+  -- as many chips are flagged as hold no codeword
+  pub flagged-count : flaggedChips m cws ≡ count (unsound m) 9
+  unfolding flaggedChips
+  flagged-count = count-ext (isFlagged m cws) (unsound m) 9 (λ k _. flagged-is k)
+
+-- ---- which chips are beyond mending
+
+module _ (m cws : List ℕ) where
+  -- the flagged chips beyond mending are the chips beyond mending
+  pub flagged-beyond-is : (k : ℕ) → isFlaggedBeyond m cws k ≡ beyondAt m k
+  unfolding isFlaggedBeyond
+  flagged-beyond-is k = ap (λ (b : Bool). b && beyondAt m k) (flagged-is m cws k) ∙ pick (unsound m k) refl
+    where
+      pick : (b : Bool) → unsound m k ≡ b → (b && beyondAt m k) ≡ beyondAt m k
+      pick true e = refl
+      pick false e = sym (sound-mends m k e)
+
+  pub beyond-chips-count : beyondChips m cws ≡ count (beyondAt m) 9
+  unfolding beyondChips
+  beyond-chips-count = count-ext (isFlaggedBeyond m cws) (beyondAt m) 9 (λ k _. flagged-beyond-is k)
+
+-- ---- the xor of the other chips
+
+-- the xor of the chips other than k is the same for two functions that agree at those
+pub others-ext : (f g : ℕ → ℕ) (k : ℕ) → ((j : ℕ) → j < 9 → (j ≡ k → ⊥) → f j ≡ g j) → xorOthers f k ≡ xorOthers g k
+unfolding xorOthers
+others-ext f g k h = xorAll-ext _ _ 9 (λ j l. pick j l (eqb j k) refl)
+  where
+    pick : (j : ℕ) → j < 9 → (t : Bool) → eqb j k ≡ t → cond t 0 (f j) ≡ cond t 0 (g j)
+    pick j l true e = refl
+    pick j l false e = h j l (eqb-false j k e)
+
+-- where all nine xor to zero, each is the xor of the other eight
+pub others-cancel : (f : ℕ → ℕ) → xorAll f 9 ≡ 0 → (k : ℕ) → k < 9 → xorOthers f k ≡ f k
+unfolding xorOthers
+others-cancel f e k h = xor-zero-eq _ (f k) (sym (xorAll-but f 9 k h) ∙ e)
+
+-- where one chip holds no codeword, the others do
+pub others-sound : (m : List ℕ) → count (unsound m) 9 ≡ 1 → (k : ℕ) → k < 9 → unsound m k ≡ true
+    → (j : ℕ) → j < 9 → (j ≡ k → ⊥) → unsound m j ≡ false
+others-sound m c k h e j l ne = pick (unsound m j) refl
+  where
+    pick : (b : Bool) → unsound m j ≡ b → b ≡ false
+    pick true f = absurd (ne (count-one (unsound m) 9 (omega arith) j k l h f e))
+    pick false f = refl

@@ -1,0 +1,124 @@
+-- Document 01, "Refusals caused by the input" and "Refusals caused by the state", and document 02, Req 01: each condition once, then their
+-- order for each call. r stands for the record and m for the lent memory.
+-- Definitions alone; what holds of them is in `RefusalLaws`.
+use Prim.Native.Nat.{ℕ, zero, suc, _*_, _/_, _%_}
+use mathlib.Core.Bool.{Bool, not, _||_, cond}
+use mathlib.Core.List.{List, [], _∷_, _++_}
+use lib.Dec.{eqb, ltb}
+use lib.ListN.{length, getD}
+use Rattle.cells.specs.Cells.{chipBytes, chips, dataBytes, lineBytes}
+use Rattle.cells.specs.Chips.{count}
+use Rattle.record.specs.declared.Rank.{Rank}
+use Rattle.record.specs.Record.{lineLimit, isLineCount, isTask}
+
+-- the number of a condition that holds, else 0
+abbrev pub refusedIf : Bool → ℕ → ℕ
+refusedIf b number = cond b number 0
+
+-- 1: line, or patrol's first line, not below N
+unfoldable pub lineOut : Rank → ℕ → Bool
+lineOut r l = not (ltb l (r .lines))
+
+abbrev pub refused1 : Rank → ℕ → ℕ
+refused1 r l = refusedIf (lineOut r l) 1
+
+-- 2: line buffer not 64 bytes
+unfoldable pub bufferOut : List ℕ → Bool
+bufferOut b = not (eqb (length b) dataBytes)
+
+abbrev pub refused2 : List ℕ → ℕ
+refused2 b = refusedIf (bufferOut b) 2
+
+-- 3: chip not below 9
+unfoldable pub chipOut : ℕ → Bool
+chipOut k = not (ltb k chips)
+
+abbrev pub refused3 : ℕ → ℕ
+refused3 k = refusedIf (chipOut k) 3
+
+-- 4: pattern not 9 bytes
+unfoldable pub patternOut : List ℕ → Bool
+patternOut p = not (eqb (length p) chipBytes)
+
+abbrev pub refused4 : List ℕ → ℕ
+refused4 p = refusedIf (patternOut p) 4
+
+-- 5: not nine catch-words
+unfoldable pub catchWordsOut : List ℕ → Bool
+catchWordsOut cws = not (eqb (length cws) chips)
+
+abbrev pub refused5 : List ℕ → ℕ
+refused5 cws = refusedIf (catchWordsOut cws) 5
+
+-- 11: boot: memory empty, no multiple of 81, or over 65,536 lines
+unfoldable pub memoryOut : List ℕ → Bool
+memoryOut m = eqb (length m) 0 || (not (eqb (length m % lineBytes) 0) || ltb lineLimit (length m / lineBytes))
+
+abbrev pub refused11 : List ℕ → ℕ
+refused11 m = refusedIf (memoryOut m) 11
+
+-- 12: Enable clear, or N outside 1 to 65,536
+unfoldable pub notReady : Rank → Bool
+notReady r = not (r .enable) || not (isLineCount (r .lines))
+
+abbrev pub refused12 : Rank → ℕ
+refused12 r = refusedIf (notReady r) 12
+
+-- 13: memory is not 81 × N bytes
+unfoldable pub memoryDiffers : Rank → List ℕ → Bool
+memoryDiffers r m = not (eqb (length m) (lineBytes * r .lines))
+
+abbrev pub refused13 : Rank → List ℕ → ℕ
+refused13 r m = refusedIf (memoryDiffers r m) 13
+
+-- 14: a register differs from its catch-word
+unfoldable pub registerDiffers : Rank → Bool
+registerDiffers r = ltb 0 (count (λ k. not (eqb (getD (r .registers) k 0) (getD (r .«catch_words») k 0))) chips)
+
+abbrev pub refused14 : Rank → ℕ
+refused14 r = refusedIf (registerDiffers r) 14
+
+-- 31: task not below 8
+unfoldable pub taskOut : ℕ → Bool
+taskOut task = not (isTask task)
+
+abbrev pub refused31 : ℕ → ℕ
+refused31 task = refusedIf (taskOut task) 31
+
+-- the first of several refusals, 0 for none
+abbrev pub firstOf : List ℕ → ℕ
+firstOf [] = 0
+firstOf (zero ∷ ns) = firstOf ns
+firstOf (suc n ∷ ns) = suc n
+
+-- Order: boot 11, 5
+unfoldable pub bootRefusal : List ℕ → List ℕ → ℕ
+bootRefusal m cws = firstOf (refused11 m ∷ refused5 cws ∷ [])
+
+-- others 12, 13, 14, 31, 1, 2, 3, 4; a test of something that a call is not given is passed over
+abbrev pub stateRefusals : Rank → List ℕ → List ℕ
+stateRefusals r m = refused12 r ∷ refused13 r m ∷ refused14 r ∷ []
+
+abbrev pub lineRefusals : Rank → List ℕ → ℕ → List ℕ
+lineRefusals r m l = stateRefusals r m ++ (refused1 r l ∷ [])
+
+-- read and patrol, the calls that visit lines, name a task
+abbrev pub visitRefusals : Rank → List ℕ → ℕ → ℕ → List ℕ
+visitRefusals r m task l = stateRefusals r m ++ (refused31 task ∷ refused1 r l ∷ [])
+
+-- write and read: the buffer b
+unfoldable pub writeRefusal : Rank → List ℕ → ℕ → List ℕ → ℕ
+writeRefusal r m l b = firstOf (lineRefusals r m l ++ (refused2 b ∷ []))
+
+unfoldable pub readRefusal : Rank → List ℕ → ℕ → ℕ → List ℕ → ℕ
+readRefusal r m task l b = firstOf (visitRefusals r m task l ++ (refused2 b ∷ []))
+
+unfoldable pub patrolRefusal : Rank → List ℕ → ℕ → ℕ → ℕ
+patrolRefusal r m task first = firstOf (visitRefusals r m task first)
+
+-- renew has no memory
+unfoldable pub renewRefusal : Rank → ℕ → ℕ
+renewRefusal r k = firstOf (refused12 r ∷ refused14 r ∷ refused3 k ∷ [])
+
+unfoldable pub faultRefusal : Rank → List ℕ → ℕ → ℕ → List ℕ → ℕ
+faultRefusal r m l k p = firstOf (lineRefusals r m l ++ (refused3 k ∷ refused4 p ∷ []))

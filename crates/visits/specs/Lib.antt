@@ -1,0 +1,6 @@
+pub mod Runs
+pub mod Visits
+pub mod Sweep
+pub mod VisitLaws
+pub mod ReadLaws
+pub mod SweepLaws

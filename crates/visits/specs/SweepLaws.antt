@@ -1,0 +1,262 @@
+-- The visits of a patrol, turn by turn.
+-- Assumes nothing.
+use mathlib.Core.Path.{_≡_, refl, sym, ap, ap₂, _∙_, subst}
+use mathlib.Core.Logic.{_≢_, ⊎-elim}
+use mathlib.Core.Bool.{Bool, true, cond}
+use mathlib.Core.List.{List, [], _∷_}
+use Prim.Native.Nat.{ℕ, zero, suc, _+_, _-_, _*_, _≤_, _<_, zero-le}
+use native.Mathlib.Nat.{add-zero, sub-zero, zero-add}
+use native.Mathlib.Omega.{arith}
+use lib.Count.{ones}
+use lib.Dec.{eqb}
+use lib.ListN.{length, getD}
+use borrow.Author.Tests.{eq-eqb, ne-eqb}
+use Rattle.cells.specs.Chips.{count, mask}
+use Rattle.cells.specs.ChipLaws.{bit-lt, ones-mask}
+use Rattle.passes.specs.Passes.{isFlagged}
+use Rattle.passes.specs.Scan.{isClean}
+use Rattle.line.specs.Visit.{outcomeOf, bytesAfter, reportOf, refusalOf}
+use Rattle.line.specs.VisitLaws.{Ends, outcome-ends}
+use Rattle.line.specs.declared.Report.{Report}
+use Rattle.line.specs.declared.Outcome.{Outcome}
+use Rattle.line.specs.declared.Outcome.the-variants.{Answered, Refused}
+use Rattle.record.specs.declared.Rank.{Rank}
+use Rattle.record.specs.Record.{totalLimit, settled}
+use Rattle.record.specs.RecordLaws.{no-ones, length-settled, length-settled-registers, total-settled}
+use Rattle.memory.specs.Lines.{lineAt}
+use Rattle.memory.specs.LineLaws.{length-withLine}
+use Rattle.visits.specs.declared.ReadResult.{ReadResult}
+use Rattle.visits.specs.declared.sweep.Tally.{Tally}
+use Rattle.visits.specs.Runs.{Did, outs, end, upFrom}
+use Rattle.visits.specs.Visits.{Device, device, visitOf, resultOf, isRefused, rewrittenBy, refusedIn, rewrittenIn}
+use Rattle.visits.specs.Sweep.{tallied}
+use Rattle.visits.specs.VisitLaws.{clean, clean-visit}
+
+-- of n lines from l on, i are done: the next one, and those after it
+next-line : (l n i : ℕ) → i < n → upFrom (l + i) (n - i) ≡ (l + i) ∷ upFrom (l + (i + 1)) (n - (i + 1))
+next-line l n i h =
+    let a : n - i ≡ suc (n - (i + 1)) = omega arith in
+    let b : suc (l + i) ≡ l + (i + 1) = omega arith in
+    ap (upFrom (l + i)) a ∙ ap (λ (k : ℕ). (l + i) ∷ upFrom k (n - (i + 1))) b
+
+all-lines : (l n : ℕ) → upFrom (l + 0) (n - 0) ≡ upFrom l n
+all-lines l n = ap₂ upFrom (add-zero l) (sub-zero n)
+
+no-lines : (l n i : ℕ) → n ≤ i → upFrom (l + i) (n - i) ≡ []
+no-lines l n i h =
+    let a : n - i ≡ 0 = omega arith in
+    ap (upFrom (l + i)) a
+
+-- ---- how much one visit can add
+
+count-most : (p : ℕ → Bool) (n : ℕ) → count p n ≤ n
+unfolding count
+count-most p zero = zero-le
+count-most p (suc n) = omega (arith, count-most p n, bit-lt (p n))
+
+-- at most nine chips are flagged
+flagged-most : (m cws : List ℕ) → ones (mask (isFlagged m cws) 9) ≤ 9
+flagged-most m cws = omega (arith, ones-mask (isFlagged m cws) 9, count-most (isFlagged m cws) 9)
+
+refused-most : (o : Outcome) → isRefused o ≤ 1
+unfolding isRefused
+refused-most Answered = zero-le
+refused-most (Refused n) = omega arith
+
+rewritten-most : (o : Outcome) (flagged : ℕ) → rewrittenBy o flagged ≤ ones flagged
+unfolding rewrittenBy
+rewritten-most Answered flagged = omega arith
+rewritten-most (Refused n) flagged = zero-le
+
+-- ---- a visit, by its number
+
+-- what is counted by the number is what the outcome says
+abbrev Counts : Outcome → Type 0
+Counts o =
+    (cond (eqb (refusalOf o) 0) 0 1 ≡ isRefused o)
+    × ((f : ℕ) → cond (eqb (refusalOf o) 0) (ones f) 0 ≡ rewrittenBy o f)
+
+counts : (o : Outcome) → Ends o → Counts o
+unfolding refusalOf isRefused rewrittenBy
+counts o = ⊎-elim (at Answered (refl, λ f. refl)) (⊎-elim (at (Refused 20) (refl, λ f. refl)) (at (Refused 21) (refl, λ f. refl)))
+  where
+    at : (p : Outcome) → Counts p → o ≡ p → Counts o
+    at p c e = subst Counts (sym e) c
+
+-- at most nine words are rewritten
+pub visit-flags : (task : ℕ) (d : Device) (l : ℕ) {v : ReadResult} → v ≡ resultOf (visitOf task d l) → ones (v .flagged) ≤ 9
+unfolding resultOf visitOf reportOf
+visit-flags task d l {v} e =
+    let f : ones (v .flagged) ≡ ones (mask (isFlagged (lineAt (d .memory) l) (d .rank .«catch_words»)) 9) =
+    ap (λ (w : ReadResult). ones (w .flagged)) e in
+    omega (arith, f, flagged-most (lineAt (d .memory) l) (d .rank .«catch_words»))
+
+-- a visit that is refused, and one that is not, as the loop counts them
+pub tallied-refused : (t : Tally) (v : ReadResult) → v .refusal ≢ 0
+    → record { refused = t .refused + 1; rewritten = t .rewritten; rank = v .rank } ≡ tallied t v
+unfolding tallied
+tallied-refused t v h =
+    (λ i. record { refused = t .refused + 1; rewritten = sym (add-zero (t .rewritten)) i; rank = v .rank })
+    ∙ ap (λ (b : Bool). record { refused = t .refused + cond b 0 1; rewritten = t .rewritten + cond b (ones (v .flagged)) 0; rank = v .rank })
+    (sym (ne-eqb (v .refusal) 0 h))
+
+pub tallied-answered : (t : Tally) (v : ReadResult) → v .refusal ≡ 0
+    → record { refused = t .refused; rewritten = t .rewritten + ones (v .flagged); rank = v .rank } ≡ tallied t v
+unfolding tallied
+tallied-answered t v h =
+    (λ i. record { refused = sym (add-zero (t .refused)) i; rewritten = t .rewritten + ones (v .flagged); rank = v .rank })
+    ∙ ap (λ (b : Bool). record { refused = t .refused + cond b 0 1; rewritten = t .rewritten + cond b (ones (v .flagged)) 0; rank = v .rank })
+    (sym (eq-eqb (v .refusal) 0 h))
+
+-- a visit to line l for a task takes the tally t and the memory s to u and x
+pub record Moves (task : ℕ) (t : Tally) (s : List ℕ) (l : ℕ) (u : Tally) (x : List ℕ) : Type 0 where
+  pub refused : u .refused ≡ t .refused + isRefused (visitOf task (device (t .rank) s) l .out .outcome)
+  pub rewritten : u .rewritten
+      ≡ t .rewritten + rewrittenBy (visitOf task (device (t .rank) s) l .out .outcome) (visitOf task (device (t .rank) s) l .out .flagged)
+  pub after : device (u .rank) x ≡ visitOf task (device (t .rank) s) l .now
+
+-- any visit, as it is counted
+pub moves-visited : {task : ℕ} {t u : Tally} {s x : List ℕ} {l : ℕ} {v : ReadResult}
+    → v ≡ resultOf (visitOf task (device (t .rank) s) l) → x ≡ visitOf task (device (t .rank) s) l .now .memory → u ≡ tallied t v
+    → Moves task t s l u x
+unfolding tallied resultOf visitOf reportOf
+moves-visited {task} {t} {u} {s} {x} {l} {v} e memory tally =
+    let m : List ℕ = lineAt s l in
+    let cws : List ℕ = t .rank .«catch_words» in
+    let c : Counts (outcomeOf m cws) = counts (outcomeOf m cws) (outcome-ends m cws) in
+    let made : u ≡ tallied t (resultOf (visitOf task (device (t .rank) s) l)) = tally ∙ ap (tallied t) e in
+    record {
+      refused = ap (λ (y : Tally). y .refused) made ∙ ap (λ (n : ℕ). t .refused + n) (c .0);
+      rewritten = ap (λ (y : Tally). y .rewritten) made ∙ ap (λ (n : ℕ). t .rewritten + n) (c .1 (mask (isFlagged m cws) 9));
+      after = ap₂ device (ap (λ (y : Tally). y .rank) made) memory;
+    }
+
+-- a visit to a clean line is left out: there is nothing to count
+pub moves-clean : {task : ℕ} {t u : Tally} {s x : List ℕ} {l : ℕ} → length (lineAt s l) ≡ 81
+    → isClean (lineAt s l) (t .rank .«catch_words») ≡ true → length (t .rank .«catch_words») ≡ 9 → length (t .rank .registers) ≡ 9
+    → getD (t .rank .repairs) task 0 ≤ totalLimit → u ≡ t → x ≡ s → Moves task t s l u x
+unfolding isRefused rewrittenBy
+moves-clean {task} {t} {u} {s} {x} {l} size h words registers total same kept =
+    let e : visitOf task (device (t .rank) s) l ≡ record { out = clean; now = device (t .rank) s } =
+    clean-visit task (t .rank) s l size h words registers total in
+    record {
+      refused =
+          ap (λ (y : Tally). y .refused) same
+          ∙ sym (ap (λ (v : Did Device Report). t .refused + isRefused (v .out .outcome)) e ∙ add-zero (t .refused));
+      rewritten =
+          ap (λ (y : Tally). y .rewritten) same
+          ∙ sym (ap (λ (v : Did Device Report). t .rewritten + rewrittenBy (v .out .outcome) (v .out .flagged)) e
+          ∙ ap (λ (n : ℕ). t .rewritten + n) no-ones
+          ∙ add-zero (t .rewritten));
+      after = ap₂ (λ (y : Tally) (z : List ℕ). device (y .rank) z) same kept ∙ sym (ap (λ (v : Did Device Report). v .now) e);
+    }
+
+-- ---- the loop
+
+-- i of n visits from line l on are made: what is counted, and what the visits that are left give, make the whole
+pub record Swept (task : ℕ) (r : Rank) (m : List ℕ) (l n : ℕ) (t : Tally) (s : List ℕ) (i : ℕ) : Type 0 where
+  pub within : i ≤ n
+  pub size : length s ≡ length m
+  pub words : length (t .rank .«catch_words») ≡ 9
+  pub registers : length (t .rank .registers) ≡ 9
+  pub total : getD (t .rank .repairs) task 0 ≤ totalLimit
+  pub few-refused : t .refused ≤ i
+  pub few-rewritten : t .rewritten ≤ 9 * i
+  pub refused : t .refused + refusedIn (outs (visitOf task) (device (t .rank) s) (upFrom (l + i) (n - i))) ≡ refusedIn
+      (outs (visitOf task) (device r m) (upFrom l n))
+  pub rewritten : t .rewritten + rewrittenIn (outs (visitOf task) (device (t .rank) s) (upFrom (l + i) (n - i))) ≡ rewrittenIn
+      (outs (visitOf task) (device r m) (upFrom l n))
+  pub ends : end (visitOf task) (device (t .rank) s) (upFrom (l + i) (n - i)) ≡ end (visitOf task) (device r m) (upFrom l n)
+
+pub swept-none : (task : ℕ) (r : Rank) (m : List ℕ) (l n : ℕ)
+    → length (r .«catch_words») ≡ 9 → length (r .registers) ≡ 9 → getD (r .repairs) task 0 ≤ totalLimit
+    → Swept task r m l n (record { refused = 0; rewritten = 0; rank = r }) m 0
+swept-none task r m l n words registers total =
+    let e : upFrom (l + 0) (n - 0) ≡ upFrom l n = all-lines l n in
+    record {
+      within = zero-le;
+      size = refl;
+      words = words;
+      registers = registers;
+      total = total;
+      few-refused = zero-le;
+      few-rewritten = zero-le;
+      refused = zero-add _ ∙ ap (λ (ls : List ℕ). refusedIn (outs (visitOf task) (device r m) ls)) e;
+      rewritten = zero-add _ ∙ ap (λ (ls : List ℕ). rewrittenIn (outs (visitOf task) (device r m) ls)) e;
+      ends = ap (end (visitOf task) (device r m)) e;
+    }
+
+module _ {task : ℕ} {r : Rank} {m : List ℕ} {l n : ℕ} {t u : Tally} {s x : List ℕ} {i : ℕ}
+    (h : Swept task r m l n t s i) (below : i < n) (moves : Moves task t s (l + i) u x) where
+  abbrev rest : List ℕ
+  rest = upFrom (l + (i + 1)) (n - (i + 1))
+
+  next : upFrom (l + i) (n - i) ≡ (l + i) ∷ rest
+  next = next-line l n i below
+
+  now-rank : u .rank ≡ settled task (reportOf (lineAt s (l + i)) (t .rank .«catch_words»)) (t .rank)
+  unfolding visitOf
+  now-rank = ap (λ (d : Device). d .rank) (moves .after)
+
+  now-size : length x ≡ length s
+  unfolding visitOf
+  now-size =
+      ap (λ (d : Device). length (d .memory)) (moves .after)
+      ∙ length-withLine s (l + i) (bytesAfter (lineAt s (l + i)) (t .rank .«catch_words»))
+
+  few : rewrittenBy (visitOf task (device (t .rank) s) (l + i) .out .outcome) (visitOf task (device (t .rank) s) (l + i) .out .flagged) ≤ 9
+  unfolding visitOf reportOf
+  few = omega (
+    arith,
+    rewritten-most (outcomeOf (lineAt s (l + i)) (t .rank .«catch_words»)) (mask (isFlagged (lineAt s (l + i)) (t .rank .«catch_words»)) 9),
+    flagged-most (lineAt s (l + i)) (t .rank .«catch_words»),
+  )
+
+  pub swept-more : Swept task r m l n u x (i + 1)
+  unfolding refusedIn rewrittenIn
+  swept-more =
+      let d : Device = device (t .rank) s in
+      let vs : Device → List Report = λ e. outs (visitOf task) e rest in
+      let c : isRefused (visitOf task d (l + i) .out .outcome) + refusedIn (vs (device (u .rank) x)) ≡ refusedIn
+      (outs (visitOf task) d (upFrom (l + i) (n - i))) =
+      ap (λ (e : Device). isRefused (visitOf task d (l + i) .out .outcome) + refusedIn (vs e)) (moves .after)
+      ∙ ap (λ (ls : List ℕ). refusedIn (outs (visitOf task) d ls)) (sym next) in
+      let b : rewrittenBy (visitOf task d (l + i) .out .outcome) (visitOf task d (l + i) .out .flagged)
+      + rewrittenIn (vs (device (u .rank) x)) ≡ rewrittenIn (outs (visitOf task) d (upFrom (l + i) (n - i))) =
+      ap (λ (e : Device). rewrittenBy (visitOf task d (l + i) .out .outcome) (visitOf task d (l + i) .out .flagged) + rewrittenIn (vs e))
+      (moves .after)
+      ∙ ap (λ (ls : List ℕ). rewrittenIn (outs (visitOf task) d ls)) (sym next) in
+      record {
+        within = omega arith;
+        size = now-size ∙ h .size;
+        words = ap (λ (y : Rank). length (y .«catch_words»)) now-rank ∙ length-settled task _ (t .rank) (h .words);
+        registers = ap (λ (y : Rank). length (y .registers)) now-rank ∙ length-settled-registers task _ (t .rank) (h .registers);
+        total = subst (λ (y : Rank). getD (y .repairs) task 0 ≤ totalLimit) (sym now-rank) (total-settled task _ (t .rank) (h .total));
+        few-refused = omega (arith, moves .refused, refused-most (visitOf task d (l + i) .out .outcome), h .few-refused);
+        few-rewritten = omega (arith, moves .rewritten, few, h .few-rewritten);
+        refused = omega (arith, moves .refused, c, h .refused);
+        rewritten = omega (arith, moves .rewritten, b, h .rewritten);
+        ends =
+            ap (λ (y : Device). end (visitOf task) y rest) (moves .after)
+            ∙ ap (end (visitOf task) d) (sym next)
+            ∙ h .ends;
+      }
+
+module _ {task : ℕ} {r : Rank} {m : List ℕ} {l n : ℕ} {t : Tally} {s : List ℕ} {i : ℕ} (h : Swept task r m l n t s i) (over : n ≤ i) where
+  none : upFrom (l + i) (n - i) ≡ []
+  none = no-lines l n i over
+
+  pub all-refused : t .refused ≡ refusedIn (outs (visitOf task) (device r m) (upFrom l n))
+  unfolding refusedIn
+  all-refused =
+      sym (ap (λ (ls : List ℕ). t .refused + refusedIn (outs (visitOf task) (device (t .rank) s) ls)) none ∙ add-zero (t .refused))
+      ∙ h .refused
+
+  pub all-rewritten : t .rewritten ≡ rewrittenIn (outs (visitOf task) (device r m) (upFrom l n))
+  unfolding rewrittenIn
+  all-rewritten =
+      sym (ap (λ (ls : List ℕ). t .rewritten + rewrittenIn (outs (visitOf task) (device (t .rank) s) ls)) none ∙ add-zero (t .rewritten))
+      ∙ h .rewritten
+
+  pub all-ended : device (t .rank) s ≡ end (visitOf task) (device r m) (upFrom l n)
+  all-ended = sym (ap (end (visitOf task) (device (t .rank) s)) none) ∙ h .ends

@@ -1,0 +1,93 @@
+-- Document 01, "The calls": a visit in the lent memory and with the record, a read's and a patrol's; document 02, Req 01: for a task. r
+-- stands for the record, m for the memory and l for a line's number.
+-- Definitions alone; what holds of them is in `VisitLaws`, `ReadLaws` and `SweepLaws`.
+use Prim.Native.Nat.{ℕ, zero, suc}
+use mathlib.Core.List.{List}
+use lib.Count.{ones}
+use Rattle.cells.specs.Chips.{joined}
+use Rattle.words.specs.Bytes.{bytesOf}
+use Rattle.line.specs.Visit.{wordOf, bytesAfter, reportOf, refusalOf}
+use Rattle.line.specs.declared.Report.{Report}
+use Rattle.line.specs.declared.Outcome.{Outcome}
+use Rattle.line.specs.declared.Outcome.the-variants.{Answered, Refused}
+use Rattle.record.specs.declared.Rank.{Rank}
+use Rattle.visits.specs.declared.ReadResult.{ReadResult}
+use Rattle.visits.specs.Runs.{Did, sumOf}
+use Rattle.memory.specs.Lines.{lineAt, withLine}
+use Rattle.record.specs.Record.{settled}
+
+-- the record and the lent memory
+pub record Device : Type 0 where
+  pub rank : Rank
+  pub memory : List ℕ
+
+abbrev pub device : Rank → List ℕ → Device
+device r m = record { rank = r; memory = m }
+
+-- what a read leaves: the buffer too
+pub record LeavesRead : Type 0 where
+  pub result : ReadResult
+  pub memory : List ℕ
+  pub buffer : List ℕ
+
+-- ---- a visit, in the memory and with the record
+
+-- line l visited for a task: what is reported, the record by step 6, and the memory with the line's bytes after it. In pass one the
+-- registers equal the catch-words: test 14 stands before every visit, and step 6 moves both alike.
+unfoldable pub visitOf : ℕ → Device → ℕ → Did Device Report
+visitOf task d l =
+    record {
+      out = reportOf (lineAt (d .memory) l) (d .rank .«catch_words»);
+      now = record {
+        rank = settled task (reportOf (lineAt (d .memory) l) (d .rank .«catch_words»)) (d .rank);
+        memory = withLine (d .memory) l (bytesAfter (lineAt (d .memory) l) (d .rank .«catch_words»));
+      };
+    }
+
+-- what it gives: the number of its outcome; passes and masks are those reached, with 20 and 21 too; and the record
+unfoldable pub resultOf : Did Device Report → ReadResult
+resultOf v =
+    record {
+      refusal = refusalOf (v .out .outcome);
+      passes = v .out .passes;
+      flagged = v .out .flagged;
+      collisions = v .out .collisions;
+      rank = v .now .rank;
+    }
+
+-- ---- read: a visit that puts the line in a 64-byte buffer b
+
+-- the line's 64 bytes: the words of chips 0 to 7 that the visit found, eight bytes each
+unfoldable pub foundLine : List ℕ → List ℕ → List ℕ
+foundLine bytes cws = joined (λ k. bytesOf 8 (wordOf bytes cws k)) 8
+
+-- the buffer by the outcome of the visit
+unfoldable pub bufferBy : Outcome → List ℕ → List ℕ → List ℕ
+bufferBy Answered found b = found
+bufferBy (Refused number) found b = b
+
+unfoldable pub readBy : ℕ → Rank → List ℕ → ℕ → ℕ → List ℕ → LeavesRead
+readBy zero r m task l b =
+    let v : Did Device Report = visitOf task (device r m) l in
+    let found : List ℕ = foundLine (lineAt m l) (r .«catch_words») in
+    record { result = resultOf v; memory = v .now .memory; buffer = bufferBy (v .out .outcome) found b }
+readBy (suc n) r m task l b =
+    record { result = record { refusal = suc n; passes = 0; flagged = 0; collisions = 0; rank = r }; memory = m; buffer = b }
+
+-- ---- patrol: what it counts of its visits
+
+-- 1 for a refused visit
+unfoldable pub isRefused : Outcome → ℕ
+isRefused Answered = 0
+isRefused (Refused number) = 1
+
+-- the words rewritten: each flagged chip's, if the line was answered
+unfoldable pub rewrittenBy : Outcome → ℕ → ℕ
+rewrittenBy Answered flagged = ones flagged
+rewrittenBy (Refused number) flagged = 0
+
+unfoldable pub refusedIn : List Report → ℕ
+refusedIn vs = sumOf (λ v. isRefused (v .outcome)) vs
+
+unfoldable pub rewrittenIn : List Report → ℕ
+rewrittenIn vs = sumOf (λ v. rewrittenBy (v .outcome) (v .flagged)) vs
