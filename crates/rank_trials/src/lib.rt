@@ -24,17 +24,6 @@ pub fn booted() -> Session {
     }
 }
 
-// The session goes on with a record of other lines or Enable, in which one chip's register differs from its catch-word, none for chip 9.
-pub fn with_record(s: Session, lines: u32, enable: bool, chip: usize) -> Session {
-    let mut rank = record_of(lines, enable, CATCH_WORD);
-    if chip < 9 {
-        rank.registers[chip] = 1;
-    }
-    let mut after = s;
-    after.rank = rank;
-    after
-}
-
 // A record with one catch-word for all nine chips.
 pub fn record_of(lines: u32, enable: bool, catch_word: u64) -> Rank {
     Rank {
@@ -143,28 +132,4 @@ pub fn renew(s: Session, chip: u32, catch_word: u64, number: u32) -> Session {
     let memory = s.memory;
     let called = rank::rank_renew(s.rank, chip, catch_word);
     judged(s, called.rank, memory, called.refusal == number, number)
-}
-
-// No call: whether both copies of a chip's catch-word are a word.
-pub fn catch_word_is(s: Session, chip: usize, word: u64) -> Session {
-    let rank = s.rank;
-    let k = chip % 9;
-    counted(
-        s,
-        (rank.catch_words[k] ^ word) | (rank.registers[k] ^ word) == 0,
-    )
-}
-
-// No call: whether the repair totals are these.
-pub fn totals_are(s: Session, totals: [u32; 8]) -> Session {
-    let due = set_totals(s, totals);
-    counted(s, same(s.rank, due.rank))
-}
-
-pub fn set_totals(s: Session, totals: [u32; 8]) -> Session {
-    let mut rank = s.rank;
-    rank.repairs = totals;
-    let mut after = s;
-    after.rank = rank;
-    after
 }

@@ -8,7 +8,6 @@ use rank_trials::read;
 use rank_trials::record_of;
 use rank_trials::renew;
 use rank_trials::same;
-use rank_trials::with_record;
 use rank_trials::write;
 use record::Rank;
 
@@ -55,6 +54,17 @@ pub fn by_state(s: Session) -> Session {
     let s = lines_refused(with_record(s, 5, true, 9), 3, 13);
     let s = all_refuse(with_record(s, 4, true, 0), 14);
     all_refuse(with_record(s, 4, true, 8), 14)
+}
+
+// The session goes on with a record of other lines or Enable, in which one chip's register differs from its catch-word, none for chip 9.
+fn with_record(s: Session, lines: u32, enable: bool, chip: usize) -> Session {
+    let mut rank = record_of(lines, enable, CATCH_WORD);
+    if chip < 9 {
+        rank.registers[chip] = 1;
+    }
+    let mut after = s;
+    after.rank = rank;
+    after
 }
 
 fn all_refuse(s: Session, number: u32) -> Session {

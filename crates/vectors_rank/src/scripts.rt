@@ -1,13 +1,12 @@
 // Calls one after another. `read` has the line, the task and the byte that the line was filled with, and `patrol` the first line, the task
 // and the budget.
 use rank_trials::Session;
-use rank_trials::catch_word_is;
+use rank_trials::counted;
 use rank_trials::fault;
 use rank_trials::patrol;
 use rank_trials::read;
 use rank_trials::renew;
-use rank_trials::set_totals;
-use rank_trials::totals_are;
+use rank_trials::same;
 use rank_trials::write;
 
 // Document 01's example of program `bench`.
@@ -105,4 +104,28 @@ pub fn totals(s: Session) -> Session {
 fn two_damaged(s: Session) -> Session {
     let s = fault(s, 0, 0, [0, 0, 1], 9, 0);
     fault(s, 0, 8, [0, 1, 0], 9, 0)
+}
+
+// No call: whether both copies of a chip's catch-word are a word.
+fn catch_word_is(s: Session, chip: usize, word: u64) -> Session {
+    let rank = s.rank;
+    let k = chip % 9;
+    counted(
+        s,
+        (rank.catch_words[k] ^ word) | (rank.registers[k] ^ word) == 0,
+    )
+}
+
+// No call: whether the repair totals are these.
+fn totals_are(s: Session, totals: [u32; 8]) -> Session {
+    let due = set_totals(s, totals);
+    counted(s, same(s.rank, due.rank))
+}
+
+fn set_totals(s: Session, totals: [u32; 8]) -> Session {
+    let mut rank = s.rank;
+    rank.repairs = totals;
+    let mut after = s;
+    after.rank = rank;
+    after
 }
