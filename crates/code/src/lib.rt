@@ -2,8 +2,10 @@
 // word that it sends with Enable clear (document 02, Req 02).
 ghost use mathlib.Core.Path.{_≡_};
 ghost use Prim.Native.Nat.{_*_, _/_};
+ghost use lib.Count.{trailingZeros};
 ghost use Rattle.code.specs.Code.{cell, timesX, syndromeOf, isCodeword, checkOf, positionOf, bitAt, mendedWord, statusAt, statusOf, isBeyond};
 ghost use Rattle.code.specs.Fold.{Folded};
+ghost use Rattle.code.specs.Walks.{eachByte, markIf};
 
 // What a chip tells of a word sent with Enable clear, in document 02's words. Sound: it holds a codeword. Mended: one bit was inverted.
 // Beyond mending: it holds no codeword, and nothing was inverted.
@@ -40,28 +42,57 @@ pub fn is_codeword(word: u64, check: u8) -> bool
     syndrome(word, check) == 0
 }
 
+// The powers of x at which eight walks begin, one in each byte: x^0 in the lowest, then x^9, and so on to x^63.
+const STARTS: u64 = 0x8a76_6467_5154_0e01;
+
+// The lowest bit of each of eight bytes.
+const ONE_EACH: u64 = 0x0101_0101_0101_0101;
+
+// The lower seven bits of each.
+const LOW_EACH: u64 = 0x7f7f_7f7f_7f7f_7f7f;
+
 // The position, from 0 to 71, of a syndrome; 255 stands for no position. The positions' syndromes are the powers of x from x^0 up, each the
-// one before times x, and are walked through until this one comes (document 02, Req 03).
+// one before times x, and are walked through until this one comes (document 02, Req 03). Eight walks go side by side in the bytes of a
+// number, walk j from position 9j up, so that nine steps go through all 72.
 pub fn position(syndrome: u8) -> u8
     ensures { λ r. ⌜ r ≡ positionOf syndrome ⌝ }
 {
-    let mut power = 1;
+    let mut powers = STARTS;
     let mut i = 0;
-    while i < 72 {
-        if power == syndrome {
-            return i;
+    while i < 9 {
+        let found = walks_at(syndrome, powers);
+        if found != 0 {
+            return 9 * lowest_byte(found) + i;
         }
-        power = times_x(power);
+        powers = times_x(powers);
         i += 1;
     }
     255
 }
 
-// A remainder times x. Where x^7 moves up to x^8, the rest of the polynomial, x^2 + x + 1, stands for it.
-fn times_x(remainder: u8) -> u8
-    ensures { λ r. ⌜ r ≡ timesX remainder ⌝ }
+// The highest bit of each byte whose walk is at a syndrome: there a byte of `difference` is zero. Elsewhere its highest bit is set, or the
+// sum carries into that from the lower seven; no sum carries into the next byte. `differs` has the lower seven bits set in every byte, so
+// that its complement has none of them.
+fn walks_at(syndrome: u8, powers: u64) -> u64
+    ensures { λ r. ⌜ r ≡ eachByte 8 (markIf syndrome) powers ⌝ }
 {
-    (remainder << 1) ^ ((remainder >> 7) * 0x07)
+    let difference = powers ^ ((syndrome as u64) * ONE_EACH);
+    let differs = ((difference & LOW_EACH) + LOW_EACH) | difference | LOW_EACH;
+    differs ^ u64::MAX
+}
+
+// The place of the lowest byte that has a bit set, from 0 to 7; 8 stands for none.
+fn lowest_byte(bits: u64) -> u8
+    ensures { λ r. ⌜ r ≡ trailingZeros 64 bits / 8 ⌝ }
+{
+    (u64::trailing_zeros(bits) / 8) as u8
+}
+
+// Eight remainders, each times x. Where x^7 moves up to x^8, the rest of the polynomial, x^2 + x + 1, stands for it.
+fn times_x(powers: u64) -> u64
+    ensures { λ r. ⌜ r ≡ eachByte 8 timesX powers ⌝ }
+{
+    ((powers & LOW_EACH) << 1) ^ (((powers >> 7) & ONE_EACH) * 0x07)
 }
 
 // The word after mending, document 01's M, and its status. A codeword is sound, though its syndrome has position 255.

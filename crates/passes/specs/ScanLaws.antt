@@ -6,13 +6,12 @@ use mathlib.Core.Bool.{Bool, true, false, not, _&&_, _||_}
 use mathlib.Core.List.{List}
 use Prim.Native.Nat.{ℕ, suc, _+_, _*_, _<_}
 use native.Mathlib.Omega.{arith}
-use lib.Bits.{bitXor, xor-self}
 use lib.Dec.{eqb}
 use borrow.Author.Tests.{eq-eqb, eqb-true, not-false}
 use Rattle.code.specs.Code.{cell, syndromeOf, isCodeword, checkOf}
 use Rattle.code.specs.CodeLaws.{syndrome-of, codeword-syndrome, syndrome-codeword, check-lt, check-makes, check-only, check-zero}
 use Rattle.lanes.specs.Lanes.{lanes}
-use Rattle.code.specs.XorLaws.{xor-zero-eq}
+use Rattle.code.specs.XorLaws.{xor-zero-eq, xor-test}
 use Rattle.cells.specs.Chips.{xorAll, count, mask}
 use Rattle.cells.specs.Cells.{wordAt, checkAt, cellAt}
 use Rattle.code.specs.TestLaws.{and-first, and-second}
@@ -36,12 +35,6 @@ same-test false false f g = refl
 pub fails : (t : Bool) → (t ≡ true → ⊥) → false ≡ t
 fails true h = absurd (h refl)
 fails false h = refl
-
--- two numbers are equal where their xor is zero
-xor-test : (a b : ℕ) → eqb (bitXor a b) 0 ≡ eqb a b
-xor-test a b =
-    same-test (eqb (bitXor a b) 0) (eqb a b) (λ t. eq-eqb a b (xor-zero-eq a b (eqb-true _ 0 t)))
-    (λ t. eq-eqb _ 0 (ap (λ (x : ℕ). bitXor x b) (eqb-true a b t) ∙ xor-self b))
 
 -- ---- a chip that holds a codeword
 

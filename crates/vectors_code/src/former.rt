@@ -1,4 +1,4 @@
-// The table of positions by syndrome, in 256 entries, that `code` had before document 02, Req 03: a walk took its place.
+// The table of positions by syndrome, in 256 entries, that `code` had before document 02, Req 03: walks took its place.
 
 // Whether syndrome i has the position that the table gave.
 pub fn agrees(i: u64) -> bool {

@@ -17,7 +17,7 @@ const ROUNDS: u32 = 401;
 const PART: u32 = 4_096;
 /// The task of all timed visits.
 const TASK: u32 = 0;
-/// Position 71 of a chip's nine bytes, bit 63 of its word. The library walks up through the positions, and has it last.
+/// Position 71 of a chip's nine bytes, bit 63 of its word. The library finds it in the last of its nine steps.
 const LAST_BIT: [u8; 9] = [0x80, 0, 0, 0, 0, 0, 0, 0, 0];
 
 fn main() {
