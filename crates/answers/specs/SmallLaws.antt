@@ -27,7 +27,6 @@ use Rattle.visits.specs.declared.ReadResult.{ReadResult}
 -- ---- refusals
 
 first-lt : (ns : List ℕ) → Every (λ k. k < 100) ns → firstOf ns < 100
-unfolding Every
 first-lt [] h = lit< tt
 first-lt (zero ∷ ns) h = first-lt ns (h .1)
 first-lt (suc k ∷ ns) h = h .0
@@ -37,25 +36,24 @@ if-lt true k h = h
 if-lt false k h = lit< tt
 
 state-lt : (r : Rank) (m ns : List ℕ) → Every (λ k. k < 100) ns → firstOf (stateRefusals r m ++ ns) < 100
-unfolding Every
 state-lt r m ns h =
     first-lt (stateRefusals r m ++ ns)
     (if-lt (notReady r) 12 (lit< tt), (if-lt (memoryDiffers r m) 13 (lit< tt), (if-lt (registerDiffers r) 14 (lit< tt), h)))
 
 write-lt : (r : Rank) (m : List ℕ) (l : ℕ) (b : List ℕ) → writeRefusal r m l b < 100
-unfolding writeRefusal Every
+unfolding writeRefusal
 write-lt r m l b =
     state-lt r m (refusedIf (lineOut r l) 1 ∷ refusedIf (bufferOut b) 2 ∷ [])
     (if-lt (lineOut r l) 1 (lit< tt), (if-lt (bufferOut b) 2 (lit< tt), tt))
 
 read-lt : (r : Rank) (m : List ℕ) (task l : ℕ) (b : List ℕ) → readRefusal r m task l b < 100
-unfolding readRefusal Every
+unfolding readRefusal
 read-lt r m task l b =
     state-lt r m (refusedIf (taskOut task) 31 ∷ refusedIf (lineOut r l) 1 ∷ refusedIf (bufferOut b) 2 ∷ [])
     (if-lt (taskOut task) 31 (lit< tt), (if-lt (lineOut r l) 1 (lit< tt), (if-lt (bufferOut b) 2 (lit< tt), tt)))
 
 fault-lt : (r : Rank) (m : List ℕ) (l k : ℕ) (p : List ℕ) → faultRefusal r m l k p < 100
-unfolding faultRefusal Every
+unfolding faultRefusal
 fault-lt r m l k p =
     state-lt r m (refusedIf (lineOut r l) 1 ∷ refusedIf (chipOut k) 3 ∷ refusedIf (patternOut p) 4 ∷ [])
     (if-lt (lineOut r l) 1 (lit< tt), (if-lt (chipOut k) 3 (lit< tt), (if-lt (patternOut p) 4 (lit< tt), tt)))

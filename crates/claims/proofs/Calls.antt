@@ -18,7 +18,8 @@ use Rattle.memory.specs.Lines.{lineAt, faulted}
 use Rattle.visits.specs.Visits.{Device, visitOf, readBy, resultOf, bufferBy, foundLine, refusedIn}
 use Rattle.rank.specs.Calls.{writeOf, writeBy, readOf, patrolOf, patrolBy, patrolled, patrolLines, renewOf, renewBy, faultOf, faultBy}
 use Rattle.record.specs.Record.{renewed}
-use Rattle.claims.specs.Lists.{Call, write, read, patrol, renew, fault, All, Typed, Seen, refused, done, line, counts, seenBy, deviceCall}
+use Rattle.code.specs.Lists.{Every}
+use Rattle.claims.specs.Lists.{Call, write, read, patrol, renew, fault, Typed, Seen, refused, done, line, counts, seenBy, deviceCall}
 use Rattle.claims.specs.Plain as P
 use Rattle.claims.specs.Plain.{Line, Plain, whole, hit, answers, visitBy, plainVisit, unless, plainRefusal, visits, plainAccepted, plainBy, plainCall}
 use Rattle.claims.specs.Premises.{Premise, AtVisits, PremiseBy}
@@ -96,7 +97,7 @@ module _ (n : ℕ) where
         still = visited-still n task d p l in-n r h;
       }
 
-  lines-same : (task : ℕ) (d : Device) (p : Plain) (ls : List ℕ) → All (λ l. l < n) ls → Related n d p → AtVisits p ls
+  lines-same : (task : ℕ) (d : Device) (p : Plain) (ls : List ℕ) → Every (λ l. l < n) ls → Related n d p → AtVisits p ls
       → Alike (deviceLines task d ls)
       (record { out = counts (length (outs plainVisit p ls)) (sumOf P.isRefused (outs plainVisit p ls)); now = end plainVisit p ls })
   unfolding refusedIn

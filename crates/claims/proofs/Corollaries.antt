@@ -30,7 +30,8 @@ use Rattle.refusals.specs.Refusals.{lineOut, bufferOut, chipOut, patternOut, ca
 use Rattle.visits.specs.Visits.{visitOf, bufferBy, resultOf, readBy, Device}
 use Rattle.rank.specs.Calls.{bootBy, bootOf, writeBy, writeOf, readOf, patrolLines, patrolBy, patrolOf, renewBy, renewOf, faultBy, faultOf}
 use Rattle.visits.specs.Runs.{Did, outs, end}
-use Rattle.claims.specs.Lists.{All, Call, write, read, renew, fault, Typed, Seen, refused, done, line, counts, seenBy, deviceCall}
+use Rattle.code.specs.Lists.{Every}
+use Rattle.claims.specs.Lists.{Call, write, read, renew, fault, Typed, Seen, refused, done, line, counts, seenBy, deviceCall}
 use Rattle.claims.specs.Plain as P
 use Rattle.claims.specs.Plain.{Line, Plain, whole, hit, damage, answers, visitBy, plainVisit, unless, plainRefusal, plainAccepted, plainBy, plainCall}
 use Rattle.claims.specs.Premises.{Premise, PremiseBy, AtCalls}
@@ -290,7 +291,7 @@ deviceAfter m cws cs = end deviceCall (bootedDevice m cws) cs
 abbrev pub plainAfter : List ℕ → List Call → Plain
 plainAfter m cs = end plainCall (bootedPlain m) cs
 
-module _ (m cws : List ℕ) (cs : List Call) (e : bootRefusal m cws ≡ 0) (t : All Typed cs) (h : AtCalls (bootedPlain m) cs) where
+module _ (m cws : List ℕ) (cs : List Call) (e : bootRefusal m cws ≡ 0) (t : Every Typed cs) (h : AtCalls (bootedPlain m) cs) where
   related : Related (length m / 81) (deviceAfter m cws cs) (plainAfter m cs)
   related = faithful-boot m cws cs e t h .related
 
@@ -413,7 +414,7 @@ unfolding hit whole
 bytes-hit b k q = refl
 
 -- what is written, then hit in one chip by a pattern that is zero or no codeword, is read back, after any list
-pub one-fault-answers : (m cws : List ℕ) (cs : List Call) → bootRefusal m cws ≡ 0 → All Typed cs → AtCalls (bootedPlain m) cs
+pub one-fault-answers : (m cws : List ℕ) (cs : List Call) → bootRefusal m cws ≡ 0 → Every Typed cs → AtCalls (bootedPlain m) cs
     → (task l k : ℕ) (b q buffer : List ℕ) → task < 8 → l < length m / 81 → k < 9 → length b ≡ 64 → Bytes b → length q ≡ 9 → Bytes q
     → (isCodeword (numberOf q) ≡ true → numberOf q ≡ 0) → length buffer ≡ 64
     → outs deviceCall (deviceAfter m cws cs) (write l b ∷ fault l k q ∷ read task l buffer ∷ []) ≡ done ∷ done ∷ line b ∷ []

@@ -11,7 +11,8 @@ use Rattle.cells.specs.Chips.{count}
 use Rattle.code.specs.TestLaws.{and-first, and-second}
 use Rattle.cells.specs.ChipLaws.{count-none}
 use Rattle.words.specs.ByteLaws.{Bytes, bytes-cons}
-use Rattle.claims.specs.Lists.{Call, write, read, patrol, renew, fault, All, Typed}
+use Rattle.code.specs.Lists.{Every}
+use Rattle.claims.specs.Lists.{Call, write, read, patrol, renew, fault, Typed}
 use Rattle.claims.specs.Plain.{Line, Plain, damage, wide, plainVisit, plainRefusal, visits, plainCall}
 use Rattle.claims.specs.Premises.{Premise, AtVisits, PremiseBy, AtCalls}
 
@@ -99,6 +100,6 @@ abbrev pub allTyped : List Call → Bool
 allTyped [] = true
 allTyped (c ∷ cs) = isTyped c && allTyped cs
 
-pub all-typed : (cs : List Call) → allTyped cs ≡ true → All Typed cs
+pub all-typed : (cs : List Call) → allTyped cs ≡ true → Every Typed cs
 all-typed [] e = tt
 all-typed (c ∷ cs) e = (is-typed c (and-first (isTyped c) (allTyped cs) e), all-typed cs (and-second (isTyped c) (allTyped cs) e))

@@ -26,7 +26,7 @@ use Rattle.visits.specs.Runs.{upFrom, sumOf}
 use Rattle.memory.specs.Lines.{lineAt, withLine}
 use Rattle.record.specs.Record.{moved, settled, settledBy}
 use Rattle.visits.specs.Visits.{Device, visitOf, foundLine, isRefused}
-use Rattle.claims.specs.Lists.{All}
+use Rattle.code.specs.Lists.{Every}
 use Rattle.claims.specs.Plain as P
 use Rattle.claims.specs.Plain.{Line, Plain, whole, damage, damagedChips, undone, wideBeyond, answers, visitBy, plainVisit}
 use Rattle.claims.specs.Premises.{Premise, AtVisits}
@@ -165,7 +165,7 @@ visit-same n task d p l in-n r h =
     }
 
 -- as many visits are refused, and the two stay related
-pub visits-same : (n task : ℕ) (ls : List ℕ) (d : Device) (p : Plain) → All (λ l. l < n) ls → Related n d p → AtVisits p ls
+pub visits-same : (n task : ℕ) (ls : List ℕ) (d : Device) (p : Plain) → Every (λ l. l < n) ls → Related n d p → AtVisits p ls
     → Whole (Related n) reportRefused P.isRefused (visitOf task) plainVisit d p ls
 visits-same n task =
     lockstep (Related n) reportRefused P.isRefused (visitOf task) plainVisit (λ l. l < n) (λ p l. Premise (p .lineAt l)) (visit-same n task)
@@ -176,6 +176,6 @@ sum-map f [] = refl
 sum-map f (x ∷ xs) = ap (λ (n : ℕ). f x + n) (sum-map f xs)
 
 -- the lines that a patrol visits are below the line that it ends at
-pub below-upFrom : (n l k : ℕ) → l + k ≤ n → All (λ j. j < n) (upFrom l k)
+pub below-upFrom : (n l k : ℕ) → l + k ≤ n → Every (λ j. j < n) (upFrom l k)
 below-upFrom n l zero h = tt
 below-upFrom n l (suc k) h = (omega arith, below-upFrom n (suc l) k (omega arith))

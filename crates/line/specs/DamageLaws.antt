@@ -24,7 +24,7 @@ use Rattle.cells.specs.CellLaws.{length-joined, chip-joined, same-chips, length
 use Rattle.line.specs.Damage.{damaged, Parity, wide, beyond, Premise, damages, undone, wideBeyond, answers}
 use Rattle.code.specs.TestLaws.{and-second}
 use Rattle.cells.specs.ChipLaws.{and-shown, last, joined-ext, xorAll-ext, xorAll-lt, xorAll-xor, xorAll-few, count-ext, count-none, count-one, count-le, count-all}
-use Rattle.passes.specs.Passes.{isFlagged, xorOthers, toldAt, beyondChips, unsound}
+use Rattle.passes.specs.Passes.{isFlagged, xorOthers, toldAt, beyondChips, isUnsound}
 use Rattle.line.specs.Visit.{mustCancel, outcomeOf, wordOf, bytesAfter}
 use Rattle.passes.specs.PassLaws.{heldWord, mendedAt, beyondAt, flagged-is, others-ext, others-cancel, others-sound, beyond-chips-count}
 use Rattle.line.specs.VisitLaws.{thirdOutcomeWith, thirdWordWith, outcomeWith, wordWith, bytesWith, outcomeFor, wordFor, bytesFor, outcome-is, word-is, bytes-is}
@@ -194,20 +194,20 @@ module _ (m : List ℕ) (w p : ℕ → ℕ) (par : Parity w) (b : Premise p) (fi
     (at : (k : ℕ) → k < 9 → cellAt m k ≡ bitXor (cell (w k) (checkOf (w k))) (p k))
     (whole : (k : ℕ) → k < 9 → p k ≡ 0 → chipAt m k ≡ codeword (w k)) where
   -- the chips that hold no codeword are the damaged ones
-  pub unsound-damaged : (k : ℕ) → k < 9 → unsound m k ≡ not (eqb (p k) 0)
-  unfolding unsound
+  pub unsound-damaged : (k : ℕ) → k < 9 → isUnsound m k ≡ not (eqb (p k) 0)
+  unfolding isUnsound
   unsound-damaged k h =
       ap not (ap isCodeword (at k h) ∙ codeword-damaged (cell (w k) (checkOf (w k))) (p k) (check-makes (w k)) ∙ premise-codeword p b k h)
 
-  unsound-count : count (unsound m) 9 ≡ damages p
+  unsound-count : count (isUnsound m) 9 ≡ damages p
   unfolding damages
-  unsound-count = count-ext (unsound m) (λ k. not (eqb (p k) 0)) 9 unsound-damaged
+  unsound-count = count-ext (isUnsound m) (λ k. not (eqb (p k) 0)) 9 unsound-damaged
 
-  sound-zero : (k : ℕ) → k < 9 → unsound m k ≡ false → p k ≡ 0
+  sound-zero : (k : ℕ) → k < 9 → isUnsound m k ≡ false → p k ≡ 0
   sound-zero k h e = eqb-true (p k) 0 (not-false (eqb (p k) 0) (sym (unsound-damaged k h) ∙ e))
 
   -- a chip that holds a codeword holds its word
-  whole-word : (k : ℕ) → k < 9 → unsound m k ≡ false → heldWord m k ≡ w k
+  whole-word : (k : ℕ) → k < 9 → isUnsound m k ≡ false → heldWord m k ≡ w k
   whole-word k h e =
       ap (λ (x : ℕ). x / 256) (at k h ∙ ap (bitXor (cell (w k) (checkOf (w k)))) (sound-zero k h e) ∙ xor-zero-r _) ∙ laid-word (w k)
 
@@ -241,9 +241,9 @@ module _ (m : List ℕ) (w p : ℕ → ℕ) (par : Parity w) (b : Premise p) (fi
       ap (λ (t : Bool). cond t Answered (Refused 21)) (sym (ap (λ (t : Bool). undone p || t) (one-beyond p b fit c) ∙ or-true (undone p)))
   third-with (suc (suc n)) c = absurd (omega (arith, premise-beyond p b fit))
 
-  outcome-with : (n : ℕ) → count (unsound m) 9 ≡ n → outcomeWith n m ≡ cond (leb n 1 || (undone p || wideBeyond p)) Answered (Refused 21)
+  outcome-with : (n : ℕ) → count (isUnsound m) 9 ≡ n → outcomeWith n m ≡ cond (leb n 1 || (undone p || wideBeyond p)) Answered (Refused 21)
   unfolding outcomeWith mustCancel
-  outcome-with zero c = rw (xorAll-ext (heldWord m) w 9 (λ k h. whole-word k h (count-none (unsound m) 9 c k h)) ∙ par .sum)
+  outcome-with zero c = rw (xorAll-ext (heldWord m) w 9 (λ k h. whole-word k h (count-none (isUnsound m) 9 c k h)) ∙ par .sum)
   outcome-with (suc zero) c = refl
   outcome-with (suc (suc n)) c =
       ap (λ (i : ℕ). thirdOutcomeWith i m) beyond-count
@@ -253,7 +253,7 @@ module _ (m : List ℕ) (w p : ℕ → ℕ) (par : Parity w) (b : Premise p) (fi
   outcome-for : outcomeFor m ≡ cond (answers p) Answered (Refused 21)
   unfolding outcomeFor answers
   outcome-for =
-      outcome-with (count (unsound m) 9) refl
+      outcome-with (count (isUnsound m) 9) refl
       ∙ ap (λ (n : ℕ). cond (leb n 1 || (undone p || wideBeyond p)) Answered (Refused 21)) unsound-count
 
   mended-whole : (k : ℕ) → k < 9 → mendedWord (p k) ≡ 0 → mendedAt m k ≡ w k
@@ -275,12 +275,12 @@ module _ (m : List ℕ) (w p : ℕ → ℕ) (par : Parity w) (b : Premise p) (fi
       pick false e = mended-whole k h (others-undone p b fit c k h (sym (beyond-damaged k h) ∙ e))
   third-word-with (suc (suc n)) c a k h = absurd (omega (arith, premise-beyond p b fit))
 
-  word-with : (n : ℕ) → count (unsound m) 9 ≡ n → (leb n 1 || (undone p || wideBeyond p)) ≡ true → (k : ℕ) → k < 9 → wordWith n m k ≡ w k
+  word-with : (n : ℕ) → count (isUnsound m) 9 ≡ n → (leb n 1 || (undone p || wideBeyond p)) ≡ true → (k : ℕ) → k < 9 → wordWith n m k ≡ w k
   unfolding wordWith
-  word-with zero c a k h = whole-word k h (count-none (unsound m) 9 c k h)
-  word-with (suc zero) c a k h = pick (unsound m k) refl
+  word-with zero c a k h = whole-word k h (count-none (isUnsound m) 9 c k h)
+  word-with (suc zero) c a k h = pick (isUnsound m k) refl
     where
-      pick : (t : Bool) → unsound m k ≡ t → cond t (xorOthers (heldWord m) k) (heldWord m k) ≡ w k
+      pick : (t : Bool) → isUnsound m k ≡ t → cond t (xorOthers (heldWord m) k) (heldWord m k) ≡ w k
       pick true e = others-ext (heldWord m) w k (λ j l ne. whole-word j l (others-sound m c k h e j l ne)) ∙ others-cancel w (par .sum) k h
       pick false e = whole-word k h e
   word-with (suc (suc n)) c a k h =
@@ -290,13 +290,13 @@ module _ (m : List ℕ) (w p : ℕ → ℕ) (par : Parity w) (b : Premise p) (fi
 
   word-for : answers p ≡ true → (k : ℕ) → k < 9 → wordFor m k ≡ w k
   unfolding wordFor answers
-  word-for a = word-with (count (unsound m) 9) refl (ap (λ (n : ℕ). leb n 1 || (undone p || wideBeyond p)) unsound-count ∙ a)
+  word-for a = word-with (count (isUnsound m) 9) refl (ap (λ (n : ℕ). leb n 1 || (undone p || wideBeyond p)) unsound-count ∙ a)
 
   bytes-with : (a : Bool) → answers p ≡ a → bytesWith (cond a Answered (Refused 21)) (wordFor m) m ≡ cond a (stored w) m
   unfolding bytesWith stored
-  bytes-with true a = joined-ext _ (λ k. codeword (w k)) 9 (λ k h. pick k h (unsound m k) refl)
+  bytes-with true a = joined-ext _ (λ k. codeword (w k)) 9 (λ k h. pick k h (isUnsound m k) refl)
     where
-      pick : (k : ℕ) → k < 9 → (t : Bool) → unsound m k ≡ t → cond t (codeword (wordFor m k)) (chipAt m k) ≡ codeword (w k)
+      pick : (k : ℕ) → k < 9 → (t : Bool) → isUnsound m k ≡ t → cond t (codeword (wordFor m k)) (chipAt m k) ≡ codeword (w k)
       pick k h true e = ap codeword (word-for a k h)
       pick k h false e = whole k h (sound-zero k h e)
   bytes-with false a = refl

@@ -18,7 +18,7 @@ use Rattle.cells.specs.Cells.{wordAt, cellAt, chipAt, codeword}
 use Rattle.words.specs.ByteLaws.{Bytes, number-bytesOf}
 use Rattle.cells.specs.CellLaws.{length-joined, chip-joined, length-chip, cell-fits, word-chip, held-word, length-codeword, eight-codeword}
 use Rattle.cells.specs.ChipLaws.{joined-ext, xorAll-ext, xorAll-lt, count-ext, count-none}
-use Rattle.passes.specs.Passes.{sends, sentAt, passOne, isCandidate, isFlagged, flaggedChips, xorOthers, passThree, beyondChips, unsound}
+use Rattle.passes.specs.Passes.{sends, sentAt, passOne, isCandidate, isFlagged, flaggedChips, xorOthers, passThree, beyondChips, isUnsound}
 use Rattle.line.specs.Visit.{mustCancel, thirdOutcome, thirdWord, outcomeBy, wordBy, outcomeOf, wordOf, withWords, writtenBack, bytesBy, bytesAfter, passesOf, refusalOf}
 use Rattle.line.specs.declared.Outcome.{Outcome}
 use Rattle.line.specs.declared.Outcome.the-variants.{Answered, Refused}
@@ -47,21 +47,21 @@ outcomeWith (suc (suc n)) m = thirdOutcomeWith (count (beyondAt m) 9) m
 -- chip k's word, by how many chips hold no codeword
 unfoldable pub wordWith : ℕ → List ℕ → ℕ → ℕ
 wordWith zero m k = heldWord m k
-wordWith (suc zero) m k = cond (unsound m k) (xorOthers (heldWord m) k) (heldWord m k)
+wordWith (suc zero) m k = cond (isUnsound m k) (xorOthers (heldWord m) k) (heldWord m k)
 wordWith (suc (suc n)) m k = thirdWordWith (count (beyondAt m) 9) m k
 
 -- the bytes after a visit, by its outcome
 unfoldable pub bytesWith : Outcome → (ℕ → ℕ) → List ℕ → List ℕ
-bytesWith Answered words m = joined (λ k. cond (unsound m k) (codeword (words k)) (chipAt m k)) 9
+bytesWith Answered words m = joined (λ k. cond (isUnsound m k) (codeword (words k)) (chipAt m k)) 9
 bytesWith (Refused number) words m = m
 
 -- the outcome of a visit by the line's bytes alone
 unfoldable pub outcomeFor : List ℕ → Outcome
-outcomeFor m = outcomeWith (count (unsound m) 9) m
+outcomeFor m = outcomeWith (count (isUnsound m) 9) m
 
 -- chip k's word by the line's bytes alone
 unfoldable pub wordFor : List ℕ → ℕ → ℕ
-wordFor m = wordWith (count (unsound m) 9) m
+wordFor m = wordWith (count (isUnsound m) 9) m
 
 -- the bytes after a visit by the line's bytes alone
 unfoldable pub bytesFor : List ℕ → List ℕ
@@ -74,16 +74,16 @@ module _ (m cws : List ℕ) where
   third-outcome (suc zero) = refl
   third-outcome (suc (suc n)) = refl
 
-  outcome-by : (n : ℕ) → count (unsound m) 9 ≡ n → outcomeBy n m cws ≡ outcomeWith n m
+  outcome-by : (n : ℕ) → count (isUnsound m) 9 ≡ n → outcomeBy n m cws ≡ outcomeWith n m
   unfolding outcomeBy outcomeWith mustCancel
-  outcome-by zero c = rw (xorAll-ext (passOne m cws) (heldWord m) 9 (λ k h. sent-word m cws k (count-none (unsound m) 9 c k h)))
+  outcome-by zero c = rw (xorAll-ext (passOne m cws) (heldWord m) 9 (λ k h. sent-word m cws k (count-none (isUnsound m) 9 c k h)))
   outcome-by (suc zero) c = refl
   outcome-by (suc (suc n)) c = rw (beyond-chips-count m cws) (third-outcome (count (beyondAt m) 9))
 
   -- the outcome is that by the line's bytes alone
   pub outcome-is : outcomeOf m cws ≡ outcomeFor m
   unfolding outcomeOf outcomeFor
-  outcome-is = rw (flagged-count m cws) (outcome-by (count (unsound m) 9) refl)
+  outcome-is = rw (flagged-count m cws) (outcome-by (count (isUnsound m) 9) refl)
 
   third-by : (n k : ℕ) → thirdWord n m cws k ≡ thirdWordWith n m k
   unfolding thirdWord thirdWordWith passThree sentAt sends
@@ -91,12 +91,12 @@ module _ (m cws : List ℕ) where
   third-by (suc zero) k = rw (flagged-beyond-is m cws k)
   third-by (suc (suc n)) k = refl
 
-  word-by : (n : ℕ) → count (unsound m) 9 ≡ n → (k : ℕ) → k < 9 → wordBy n m cws k ≡ wordWith n m k
+  word-by : (n : ℕ) → count (isUnsound m) 9 ≡ n → (k : ℕ) → k < 9 → wordBy n m cws k ≡ wordWith n m k
   unfolding wordBy wordWith
-  word-by zero c k h = sent-word m cws k (count-none (unsound m) 9 c k h)
-  word-by (suc zero) c k h = rw (flagged-is m cws k) (pick (unsound m k) refl)
+  word-by zero c k h = sent-word m cws k (count-none (isUnsound m) 9 c k h)
+  word-by (suc zero) c k h = rw (flagged-is m cws k) (pick (isUnsound m k) refl)
     where
-      pick : (b : Bool) → unsound m k ≡ b
+      pick : (b : Bool) → isUnsound m k ≡ b
           → cond b (xorOthers (passOne m cws) k) (passOne m cws k) ≡ cond b (xorOthers (heldWord m) k) (heldWord m k)
       pick true e = others-ext (passOne m cws) (heldWord m) k (λ j l ne. sent-word m cws j (others-sound m c k h e j l ne))
       pick false e = sent-word m cws k e
@@ -105,10 +105,10 @@ module _ (m cws : List ℕ) where
   -- so is chip k's word, whether the line is answered or refused
   pub word-is : (k : ℕ) → k < 9 → wordOf m cws k ≡ wordFor m k
   unfolding wordOf wordFor
-  word-is k h = rw (flagged-count m cws) (word-by (count (unsound m) 9) refl k h)
+  word-is k h = rw (flagged-count m cws) (word-by (count (isUnsound m) 9) refl k h)
 
   written-is : (k : ℕ) → k < 9
-      → cond (isFlagged m cws k) (codeword (wordOf m cws k)) (chipAt m k) ≡ cond (unsound m k) (codeword (wordFor m k)) (chipAt m k)
+      → cond (isFlagged m cws k) (codeword (wordOf m cws k)) (chipAt m k) ≡ cond (isUnsound m k) (codeword (wordFor m k)) (chipAt m k)
   written-is k h = rw (flagged-is m cws k, word-is k h)
 
   bytes-by : (o : Outcome) → bytesBy o m cws ≡ bytesWith o (wordFor m) m
@@ -176,9 +176,9 @@ module _ (m c d : List ℕ) where
 
 -- pass two is made if a chip holds no codeword or its catch-word, pass three if two or more hold no codeword
 pub passes-is : (m cws : List ℕ)
-    → passesOf m cws ≡ 1 + bit (ltb 0 (count (λ k. unsound m k || matches m cws k) 9)) + bit (ltb 1 (count (unsound m) 9))
+    → passesOf m cws ≡ 1 + bit (ltb 0 (count (λ k. isUnsound m k || matches m cws k) 9)) + bit (ltb 1 (count (isUnsound m) 9))
 unfolding passesOf
-passes-is m cws = rw (flagged-count m cws, count-ext (isCandidate m cws) (λ k. unsound m k || matches m cws k) 9 (λ k _. candidate-is m cws k))
+passes-is m cws = rw (flagged-count m cws, count-ext (isCandidate m cws) (λ k. isUnsound m k || matches m cws k) 9 (λ k _. candidate-is m cws k))
 
 -- ---- the answered line
 
@@ -211,17 +211,17 @@ module _ (m : List ℕ) (size : length m ≡ 81) (bytes : Bytes m) where
   word-lt : (n k : ℕ) → k < 9 → wordWith n m k < 2 ^ 64
   unfolding wordWith
   word-lt zero k l = held-lt k l
-  word-lt (suc zero) k l = either-lt (heldWord m) k l held-lt (unsound m k)
+  word-lt (suc zero) k l = either-lt (heldWord m) k l held-lt (isUnsound m k)
   word-lt (suc (suc n)) k l = third-lt (count (beyondAt m) 9) k l
 
-  third-kept : (n k : ℕ) → unsound m k ≡ false → thirdWordWith n m k ≡ heldWord m k
+  third-kept : (n k : ℕ) → isUnsound m k ≡ false → thirdWordWith n m k ≡ heldWord m k
   unfolding thirdWordWith
   third-kept zero k e = sound-mended m k e
   third-kept (suc zero) k e = rw (sound-mends m k e) (sound-mended m k e)
   third-kept (suc (suc n)) k e = sound-mended m k e
 
   -- a chip that holds a codeword keeps its word
-  word-kept : (n k : ℕ) → unsound m k ≡ false → wordWith n m k ≡ heldWord m k
+  word-kept : (n k : ℕ) → isUnsound m k ≡ false → wordWith n m k ≡ heldWord m k
   unfolding wordWith
   word-kept zero k e = refl
   word-kept (suc zero) k e = rw e
@@ -234,22 +234,22 @@ module _ (m : List ℕ) (size : length m ≡ 81) (bytes : Bytes m) where
       ap (λ (n : List ℕ). wordAt n k) (bytes-is m cws ∙ ap (λ (o : Outcome). bytesWith o (wordFor m) m) (sym (outcome-is m cws) ∙ a))
       ∙ word-chip _ k
       ∙ ap (λ (bs : List ℕ). numberOf (take 8 bs)) (chip-joined after nine k l)
-      ∙ pick (unsound m k) refl
+      ∙ pick (isUnsound m k) refl
       ∙ sym (word-is m cws k l)
     where
       after : ℕ → List ℕ
-      after j = cond (unsound m j) (codeword (wordFor m j)) (chipAt m j)
+      after j = cond (isUnsound m j) (codeword (wordFor m j)) (chipAt m j)
 
       nine : (j : ℕ) → j < 9 → length (after j) ≡ 9
-      nine j h = either (unsound m j)
+      nine j h = either (isUnsound m j)
         where
           either : (b : Bool) → length (cond b (codeword (wordFor m j)) (chipAt m j)) ≡ 9
           either true = length-codeword (wordFor m j)
           either false = length-chip m j size h
 
-      pick : (b : Bool) → unsound m k ≡ b → numberOf (take 8 (cond b (codeword (wordFor m k)) (chipAt m k))) ≡ wordFor m k
-      pick true e = ap numberOf (eight-codeword (wordFor m k)) ∙ number-bytesOf 8 (wordFor m k) (word-lt (count (unsound m) 9) k l)
-      pick false e = sym (word-chip m k) ∙ sym (held-word m k bytes) ∙ sym (word-kept (count (unsound m) 9) k e)
+      pick : (b : Bool) → isUnsound m k ≡ b → numberOf (take 8 (cond b (codeword (wordFor m k)) (chipAt m k))) ≡ wordFor m k
+      pick true e = ap numberOf (eight-codeword (wordFor m k)) ∙ number-bytesOf 8 (wordFor m k) (word-lt (count (isUnsound m) 9) k l)
+      pick false e = sym (word-chip m k) ∙ sym (held-word m k bytes) ∙ sym (word-kept (count (isUnsound m) 9) k e)
 
 -- a visit leaves as many bytes as it found
 pub length-after : (m cws : List ℕ) → length m ≡ 81 → length (bytesAfter m cws) ≡ 81

@@ -9,7 +9,7 @@ ghost use lib.Dec.{eqb};
 ghost use lib.ListN.{length, getD};
 ghost use Rattle.cells.specs.Chips.{ofChips, joined, xorAll, mask, inMask};
 ghost use Rattle.cells.specs.Cells.{chips, lineBytes, chipAt, codeword};
-ghost use Rattle.passes.specs.Passes.{catchWord, passOne, isCandidate, isFlagged, unsound};
+ghost use Rattle.passes.specs.Passes.{catchWord, passOne, isCandidate, isFlagged, isUnsound};
 ghost use Rattle.line.specs.Visit.{outcomeOf, withWords, writtenBack, bytesAfter, passesOf, reportOf, refusalOf};
 ghost use Rattle.line.specs.declared.Outcome.the-variants.{Answered, Refused};
 use cells::CHIPS;
@@ -50,15 +50,15 @@ pub fn visit(line: &mut [u8], catch_words: &[u64; CHIPS]) -> Report
     ensures bytes { λ _. ⌜ now (line .exit) ≡ bytesAfter (now (line .entry)) (now («catch_words» .entry)) ⌝ }
 {
     // Whether a chip holds a codeword is worked out once, for all passes.
-    let bad = sound::bad_chips(line);
+    let unsound = sound::unsound_chips(line);
     // Step 1.
-    let heard = first::pass(line, catch_words, bad);
+    let heard = first::pass(line, catch_words, unsound);
     let candidates = heard.candidates;
     // Step 2. Without candidates none is flagged.
-    let flagged = second::pass(line, catch_words, bad, candidates);
+    let flagged = second::pass(line, catch_words, unsound, candidates);
     let collisions = candidates & (flagged ^ ALL_CHIPS);
     // Steps 3 to 5.
-    let found = resolve(line, catch_words, bad, heard, flagged);
+    let found = resolve(line, catch_words, unsound, heard, flagged);
     let outcome = found.outcome;
     let passes = found.passes;
     // Step 6. Only an answered line is written back.
@@ -99,9 +99,15 @@ struct Found {
 }
 
 // Steps 3 to 5, by how many chips are flagged.
-fn resolve(line: &[u8], catch_words: &[u64; CHIPS], bad: u32, heard: Heard, flagged: u32) -> Found
+fn resolve(
+    line: &[u8],
+    catch_words: &[u64; CHIPS],
+    unsound: u32,
+    heard: Heard,
+    flagged: u32,
+) -> Found
     requires sizes { ⌜ (length (now line) ≡ lineBytes) × (length (now «catch_words») ≡ chips) ⌝ }
-    requires bad { ⌜ bad ≡ mask (unsound (now line)) chips ⌝ }
+    requires unsound { ⌜ unsound ≡ mask (isUnsound (now line)) chips ⌝ }
     requires candidates { ⌜ heard .candidates ≡ mask (isCandidate (now line) (now «catch_words»)) chips ⌝ }
     requires parity { ⌜ heard .parity ≡ xorAll (passOne (now line) (now «catch_words»)) chips ⌝ }
     requires flagged { ⌜ flagged ≡ mask (isFlagged (now line) (now «catch_words»)) chips ⌝ }
@@ -127,20 +133,20 @@ fn resolve(line: &[u8], catch_words: &[u64; CHIPS], bad: u32, heard: Heard, flag
             words,
         };
     }
-    mend_flagged(line, catch_words, bad, flagged)
+    mend_flagged(line, catch_words, unsound, flagged)
 }
 
 // Step 5, by how many of the flagged chips are beyond mending (document 02, Req 02). The catch-words are given for the contract alone.
-fn mend_flagged(line: &[u8], catch_words: &[u64; CHIPS], bad: u32, flagged: u32) -> Found
+fn mend_flagged(line: &[u8], catch_words: &[u64; CHIPS], unsound: u32, flagged: u32) -> Found
     requires sizes { ⌜ (length (now line) ≡ lineBytes) × (length (now «catch_words») ≡ chips) ⌝ }
-    requires bad { ⌜ bad ≡ mask (unsound (now line)) chips ⌝ }
+    requires unsound { ⌜ unsound ≡ mask (isUnsound (now line)) chips ⌝ }
     requires flagged { ⌜ flagged ≡ mask (isFlagged (now line) (now «catch_words»)) chips ⌝ }
     requires several { ⌜ 1 < ones flagged ⌝ }
     ensures outcome { λ r. ⌜ r .outcome ≡ outcomeOf (now (line .entry)) (now («catch_words» .entry)) ⌝ }
     ensures passes { λ r. ⌜ r .passes ≡ passesOf (now (line .entry)) (now («catch_words» .entry)) ⌝ }
     ensures words { λ r. ⌜ withWords (λ k. getD (r .words) k 0) (now (line .entry)) (now («catch_words» .entry)) ≡ writtenBack (now (line .entry)) (now («catch_words» .entry)) ⌝ }
 {
-    let told = third::pass(line, bad);
+    let told = third::pass(line, unsound);
     let words = told.words;
     let parity = third::xor_all(words);
     let beyond = flagged & told.beyond;

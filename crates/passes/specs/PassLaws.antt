@@ -17,7 +17,7 @@ use Rattle.cells.specs.Cells.{wordAt, cellAt}
 use Rattle.words.specs.ByteLaws.{Bytes}
 use Rattle.cells.specs.CellLaws.{held-word}
 use Rattle.cells.specs.ChipLaws.{xorAll-ext, xorAll-but, count-ext, mask-ext, count-one}
-use Rattle.passes.specs.Passes.{sends, sentAt, catchWord, passOne, isCandidate, complement, passTwo, follows, isFlagged, isCollision, flaggedChips, xorOthers, passThree, toldAt, isFlaggedBeyond, beyondChips, unsound}
+use Rattle.passes.specs.Passes.{sends, sentAt, catchWord, passOne, isCandidate, complement, passTwo, follows, isFlagged, isCollision, flaggedChips, xorOthers, passThree, toldAt, isFlaggedBeyond, beyondChips, isUnsound}
 
 -- ---- what a chip holds, by the line alone
 
@@ -40,12 +40,12 @@ matches m cws k = isCodeword (cellAt m k) && eqb (heldWord m k) (catchWord cws k
 -- ---- what a chip sends
 
 -- a chip that holds a codeword sends its word in pass one, whatever its catch-word
-pub sent-word : (m cws : List ℕ) (k : ℕ) → unsound m k ≡ false → passOne m cws k ≡ cellAt m k / 256
-unfolding unsound passOne sentAt sends
+pub sent-word : (m cws : List ℕ) (k : ℕ) → isUnsound m k ≡ false → passOne m cws k ≡ cellAt m k / 256
+unfolding isUnsound passOne sentAt sends
 sent-word m cws k h = rw (not-false (isCodeword (cellAt m k)) h)
 
 -- the same, of bytes
-pub sent-held : (m cws : List ℕ) (k : ℕ) → Bytes m → unsound m k ≡ false → passOne m cws k ≡ wordAt m k
+pub sent-held : (m cws : List ℕ) (k : ℕ) → Bytes m → isUnsound m k ≡ false → passOne m cws k ≡ wordAt m k
 sent-held m cws k bytes e = sent-word m cws k e ∙ held-word m k bytes
 
 -- any chip sends M of its nine bytes in pass three
@@ -54,19 +54,19 @@ unfolding passThree sentAt sends
 third-sent m cws k = refl
 
 -- M of a codeword's nine bytes is its word
-pub sound-mended : (m : List ℕ) (k : ℕ) → unsound m k ≡ false → mendedAt m k ≡ heldWord m k
-unfolding unsound
+pub sound-mended : (m : List ℕ) (k : ℕ) → isUnsound m k ≡ false → mendedAt m k ≡ heldWord m k
+unfolding isUnsound
 sound-mended m k h = mendedWord-codeword (cellAt m k) (codeword-syndrome (cellAt m k) (not-false (isCodeword (cellAt m k)) h))
 
 -- so a chip that holds a codeword sends its word, Enable set or clear
-pub sound-sends : (enable : Bool) (register : ℕ) (m : List ℕ) (k : ℕ) → Bytes m → unsound m k ≡ false → sends enable register (cellAt m k) ≡ wordAt m k
-unfolding sends unsound
+pub sound-sends : (enable : Bool) (register : ℕ) (m : List ℕ) (k : ℕ) → Bytes m → isUnsound m k ≡ false → sends enable register (cellAt m k) ≡ wordAt m k
+unfolding sends isUnsound
 sound-sends true register m k bytes h = rw (not-false (isCodeword (cellAt m k)) h) (held-word m k bytes)
 sound-sends false register m k bytes h = sound-mended m k h ∙ held-word m k bytes
 
 -- a chip that holds a codeword is not beyond mending
-pub sound-mends : (m : List ℕ) (k : ℕ) → unsound m k ≡ false → beyondAt m k ≡ false
-unfolding unsound toldAt
+pub sound-mends : (m : List ℕ) (k : ℕ) → isUnsound m k ≡ false → beyondAt m k ≡ false
+unfolding isUnsound toldAt
 sound-mends m k h = codeword-mends (cellAt m k) (not-false (isCodeword (cellAt m k)) h)
 
 -- ---- which chips are flagged
@@ -100,8 +100,8 @@ module _ (m cws : List ℕ) where
   complement-ne k e = omega arith
 
   -- the flagged chips are those that hold no codeword
-  pub flagged-is : (k : ℕ) → isFlagged m cws k ≡ unsound m k
-  unfolding isFlagged isCandidate follows passOne passTwo sentAt sends unsound
+  pub flagged-is : (k : ℕ) → isFlagged m cws k ≡ isUnsound m k
+  unfolding isFlagged isCandidate follows passOne passTwo sentAt sends isUnsound
   flagged-is k = flag-law (heldWord m k) (catchWord cws k) (complement cws k) (complement-ne k) (isCodeword (cellAt m k))
 
   -- the collisions are those whose codeword's word is their catch-word
@@ -110,22 +110,22 @@ module _ (m cws : List ℕ) where
   collides-is k = match-law (heldWord m k) (catchWord cws k) (complement cws k) (complement-ne k) (isCodeword (cellAt m k))
 
   -- the candidates are the chips of both kinds
-  pub candidate-is : (k : ℕ) → isCandidate m cws k ≡ (unsound m k || matches m cws k)
-  unfolding isCandidate passOne sentAt sends unsound matches
+  pub candidate-is : (k : ℕ) → isCandidate m cws k ≡ (isUnsound m k || matches m cws k)
+  unfolding isCandidate passOne sentAt sends isUnsound matches
   candidate-is k = candidate-law (heldWord m k) (catchWord cws k) (isCodeword (cellAt m k))
 
   -- the flagged chips' mask is that of the chips that hold no codeword
-  pub flagged-mask : mask (isFlagged m cws) 9 ≡ mask (unsound m) 9
-  flagged-mask = mask-ext (isFlagged m cws) (unsound m) 9 (λ k _. flagged-is k)
+  pub flagged-mask : mask (isFlagged m cws) 9 ≡ mask (isUnsound m) 9
+  flagged-mask = mask-ext (isFlagged m cws) (isUnsound m) 9 (λ k _. flagged-is k)
 
   -- the collisions' mask is that of the chips whose codeword's word is their catch-word
   pub collisions-mask : mask (isCollision m cws) 9 ≡ mask (matches m cws) 9
   collisions-mask = mask-ext (isCollision m cws) (matches m cws) 9 (λ k _. collides-is k)
 
   -- as many chips are flagged as hold no codeword
-  pub flagged-count : flaggedChips m cws ≡ count (unsound m) 9
+  pub flagged-count : flaggedChips m cws ≡ count (isUnsound m) 9
   unfolding flaggedChips
-  flagged-count = count-ext (isFlagged m cws) (unsound m) 9 (λ k _. flagged-is k)
+  flagged-count = count-ext (isFlagged m cws) (isUnsound m) 9 (λ k _. flagged-is k)
 
 -- ---- which chips are beyond mending
 
@@ -133,9 +133,9 @@ module _ (m cws : List ℕ) where
   -- the flagged chips beyond mending are the chips beyond mending
   pub flagged-beyond-is : (k : ℕ) → isFlaggedBeyond m cws k ≡ beyondAt m k
   unfolding isFlaggedBeyond
-  flagged-beyond-is k = ap (λ (b : Bool). b && beyondAt m k) (flagged-is m cws k) ∙ pick (unsound m k) refl
+  flagged-beyond-is k = ap (λ (b : Bool). b && beyondAt m k) (flagged-is m cws k) ∙ pick (isUnsound m k) refl
     where
-      pick : (b : Bool) → unsound m k ≡ b → (b && beyondAt m k) ≡ beyondAt m k
+      pick : (b : Bool) → isUnsound m k ≡ b → (b && beyondAt m k) ≡ beyondAt m k
       pick true e = refl
       pick false e = sym (sound-mends m k e)
 
@@ -160,10 +160,10 @@ unfolding xorOthers
 others-cancel f e k h = xor-zero-eq _ (f k) (sym (xorAll-but f 9 k h) ∙ e)
 
 -- where one chip holds no codeword, the others do
-pub others-sound : (m : List ℕ) → count (unsound m) 9 ≡ 1 → (k : ℕ) → k < 9 → unsound m k ≡ true
-    → (j : ℕ) → j < 9 → (j ≡ k → ⊥) → unsound m j ≡ false
-others-sound m c k h e j l ne = pick (unsound m j) refl
+pub others-sound : (m : List ℕ) → count (isUnsound m) 9 ≡ 1 → (k : ℕ) → k < 9 → isUnsound m k ≡ true
+    → (j : ℕ) → j < 9 → (j ≡ k → ⊥) → isUnsound m j ≡ false
+others-sound m c k h e j l ne = pick (isUnsound m j) refl
   where
-    pick : (b : Bool) → unsound m j ≡ b → b ≡ false
-    pick true f = absurd (ne (count-one (unsound m) 9 (omega arith) j k l h f e))
+    pick : (b : Bool) → isUnsound m j ≡ b → b ≡ false
+    pick true f = absurd (ne (count-one (isUnsound m) 9 (omega arith) j k l h f e))
     pick false f = refl

@@ -13,9 +13,9 @@ use Rattle.code.specs.declared.Status.{Status}
 use Rattle.cells.specs.Chips.{xorAll, count}
 use Rattle.cells.specs.Cells.{chips, cellAt}
 
--- chip k holds no codeword
-unfoldable pub unsound : List ℕ → ℕ → Bool
-unsound m k = not (isCodeword (cellAt m k))
+-- chip k holds no codeword: it is not sound, document 02's term
+unfoldable pub isUnsound : List ℕ → ℕ → Bool
+isUnsound m k = not (isCodeword (cellAt m k))
 
 -- with Enable set a chip sends its word if it holds a codeword, else its register; with Enable clear it sends M of its nine bytes
 unfoldable pub sends : Bool → ℕ → ℕ → ℕ

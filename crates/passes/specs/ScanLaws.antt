@@ -17,7 +17,7 @@ use Rattle.cells.specs.Cells.{wordAt, checkAt, cellAt}
 use Rattle.code.specs.TestLaws.{and-first, and-second}
 use Rattle.cells.specs.ChipLaws.{xorAll-ext, count-none, count-next, count-zero, mask-zero, mask-count}
 use Rattle.words.specs.ByteLaws.{Bytes}
-use Rattle.passes.specs.Passes.{catchWord, passOne, isCandidate, unsound}
+use Rattle.passes.specs.Passes.{catchWord, passOne, isCandidate, isUnsound}
 use Rattle.passes.specs.PassLaws.{matches, sent-held, candidate-is}
 use Rattle.cells.specs.Checks.{everyOther}
 use Rattle.cells.specs.CheckLaws.{other-equal, checks-xor}
@@ -44,20 +44,20 @@ module _ (m : List ℕ) (bytes : Bytes m) where
   check-fits k = bytes (9 * k + 8)
 
   -- its check byte is its word's
-  sound-check : (k : ℕ) → unsound m k ≡ false → checkAt m k ≡ checkOf (wordAt m k)
-  unfolding unsound cellAt
+  sound-check : (k : ℕ) → isUnsound m k ≡ false → checkAt m k ≡ checkOf (wordAt m k)
+  unfolding isUnsound cellAt
   sound-check k e =
       check-only (wordAt m k) (checkAt m k) (check-fits k) (codeword-syndrome (cellAt m k) (not-false (isCodeword (cellAt m k)) e))
 
   -- and a chip whose check byte is its word's holds a codeword
-  check-sound : (k : ℕ) → checkAt m k ≡ checkOf (wordAt m k) → unsound m k ≡ false
-  unfolding unsound cellAt
+  check-sound : (k : ℕ) → checkAt m k ≡ checkOf (wordAt m k) → isUnsound m k ≡ false
+  unfolding isUnsound cellAt
   check-sound k e =
       ap not (syndrome-codeword (cellAt m k) (ap (λ (b : ℕ). syndromeOf (cell (wordAt m k) b)) e ∙ check-makes (wordAt m k)))
 
   -- whether it holds a codeword, by its check byte
-  pub check-tells : (k : ℕ) → not (eqb (checkOf (wordAt m k)) (checkAt m k)) ≡ unsound m k
-  unfolding unsound cellAt isCodeword
+  pub check-tells : (k : ℕ) → not (eqb (checkOf (wordAt m k)) (checkAt m k)) ≡ isUnsound m k
+  unfolding isUnsound cellAt isCodeword
   check-tells k =
       sym (ap not (ap (λ (s : ℕ). eqb s 0) (syndrome-of (wordAt m k) (checkAt m k) (check-fits k)) ∙ xor-test (checkOf (wordAt m k)) (checkAt m k)))
 
@@ -68,37 +68,37 @@ module _ (m : List ℕ) (bytes : Bytes m) where
   asked k = checkOf (wordAt m k)
 
   -- eight chips hold codewords where their check bytes are those that their words ask for
-  pub eight-made : everyOther asked 0 ≡ everyOther (checkAt m) 0 → everyOther asked 1 ≡ everyOther (checkAt m) 1 → count (unsound m) 8 ≡ 0
+  pub eight-made : everyOther asked 0 ≡ everyOther (checkAt m) 0 → everyOther asked 1 ≡ everyOther (checkAt m) 1 → count (isUnsound m) 8 ≡ 0
   unfolding count
   eight-made e o =
       let p = other-equal asked (checkAt m) (λ j. check-lt (wordAt m j)) check-fits 0 e in
       let q = other-equal asked (checkAt m) (λ j. check-lt (wordAt m j)) check-fits 1 o in
-      let sound : (k : ℕ) → asked k ≡ checkAt m k → unsound m k ≡ false = λ k h. check-sound k (sym h) in
-      let none : count (unsound m) 0 ≡ 0 = refl in
-      let two : count (unsound m) 2 ≡ 0 = count-next (unsound m) 1 (count-next (unsound m) 0 none (sound 0 (p .0))) (sound 1 (q .0)) in
-      let four : count (unsound m) 4 ≡ 0 = count-next (unsound m) 3 (count-next (unsound m) 2 two (sound 2 (p .1))) (sound 3 (q .1)) in
-      let six : count (unsound m) 6 ≡ 0 = count-next (unsound m) 5 (count-next (unsound m) 4 four (sound 4 (p .2))) (sound 5 (q .2)) in
-      count-next (unsound m) 7 (count-next (unsound m) 6 six (sound 6 (p .3))) (sound 7 (q .3))
+      let sound : (k : ℕ) → asked k ≡ checkAt m k → isUnsound m k ≡ false = λ k h. check-sound k (sym h) in
+      let none : count (isUnsound m) 0 ≡ 0 = refl in
+      let two : count (isUnsound m) 2 ≡ 0 = count-next (isUnsound m) 1 (count-next (isUnsound m) 0 none (sound 0 (p .0))) (sound 1 (q .0)) in
+      let four : count (isUnsound m) 4 ≡ 0 = count-next (isUnsound m) 3 (count-next (isUnsound m) 2 two (sound 2 (p .1))) (sound 3 (q .1)) in
+      let six : count (isUnsound m) 6 ≡ 0 = count-next (isUnsound m) 5 (count-next (isUnsound m) 4 four (sound 4 (p .2))) (sound 5 (q .2)) in
+      count-next (isUnsound m) 7 (count-next (isUnsound m) 6 six (sound 6 (p .3))) (sound 7 (q .3))
 
   -- and where they do, every other check byte from chip k on is what its word asks for
-  pub eight-read : (k : ℕ) → k + 6 < 8 → count (unsound m) 8 ≡ 0 → everyOther asked k ≡ everyOther (checkAt m) k
+  pub eight-read : (k : ℕ) → k + 6 < 8 → count (isUnsound m) 8 ≡ 0 → everyOther asked k ≡ everyOther (checkAt m) k
   unfolding everyOther
   eight-read k l none =
       λ i. lanes (at k (omega arith) i) (at (k + 2) (omega arith) i) (at (k + 4) (omega arith) i) (at (k + 6) (omega arith) i)
     where
       at : (j : ℕ) → j < 8 → checkOf (wordAt m j) ≡ checkAt m j
-      at j h = sym (sound-check j (count-none (unsound m) 8 none j h))
+      at j h = sym (sound-check j (count-none (isUnsound m) 8 none j h))
 
   -- ---- the xor of the check bytes
 
   -- that of codewords is the check byte of the xor of their words
-  xor-checks : (n : ℕ) → count (unsound m) n ≡ 0 → xorAll (checkAt m) n ≡ checkOf (xorAll (wordAt m) n)
+  xor-checks : (n : ℕ) → count (isUnsound m) n ≡ 0 → xorAll (checkAt m) n ≡ checkOf (xorAll (wordAt m) n)
   xor-checks n none =
-      xorAll-ext (checkAt m) (λ k. checkOf (wordAt m k)) n (λ k l. sound-check k (count-none (unsound m) n none k l))
+      xorAll-ext (checkAt m) (λ k. checkOf (wordAt m k)) n (λ k l. sound-check k (count-none (isUnsound m) n none k l))
       ∙ checks-xor (wordAt m) n
 
   -- the last of n + 1 chips holds a codeword where the others do and the words and the check bytes xor to zero
-  last-sound : (n : ℕ) → xorAll (wordAt m) (suc n) ≡ 0 → xorAll (checkAt m) (suc n) ≡ 0 → count (unsound m) n ≡ 0 → unsound m n ≡ false
+  last-sound : (n : ℕ) → xorAll (wordAt m) (suc n) ≡ 0 → xorAll (checkAt m) (suc n) ≡ 0 → count (isUnsound m) n ≡ 0 → isUnsound m n ≡ false
   unfolding xorAll
   last-sound n words checks none =
       check-sound n
@@ -112,7 +112,7 @@ module _ (m : List ℕ) (bytes : Bytes m) where
 pub record Clean (m cws : List ℕ) : Type 0 where
   pub words : xorAll (wordAt m) 9 ≡ 0
   pub checks : xorAll (checkAt m) 9 ≡ 0
-  pub eight : count (unsound m) 8 ≡ 0
+  pub eight : count (isUnsound m) 8 ≡ 0
   pub apart : count (meets m cws) 9 ≡ 0
 
 module _ (m cws : List ℕ) where
@@ -128,7 +128,7 @@ module _ (m cws : List ℕ) where
 
 module _ (m cws : List ℕ) (bytes : Bytes m) where
   -- it is a candidate where that is its catch-word
-  candidate : (k : ℕ) → unsound m k ≡ false → isCandidate m cws k ≡ meets m cws k
+  candidate : (k : ℕ) → isUnsound m k ≡ false → isCandidate m cws k ≡ meets m cws k
   unfolding isCandidate
   candidate k e = ap (λ (w : ℕ). eqb w (catchWord cws k)) (sent-held m cws k bytes e)
 
@@ -136,8 +136,8 @@ module _ (m cws : List ℕ) (bytes : Bytes m) where
   pub clean-made : Clean m cws → isClean m cws ≡ true
   unfolding isClean
   clean-made c =
-      let nine : count (unsound m) 9 ≡ 0 = count-next (unsound m) 8 (c .eight) (last-sound m bytes 8 (c .words) (c .checks) (c .eight)) in
-      let sound : (k : ℕ) → k < 9 → unsound m k ≡ false = count-none (unsound m) 9 nine in
+      let nine : count (isUnsound m) 9 ≡ 0 = count-next (isUnsound m) 8 (c .eight) (last-sound m bytes 8 (c .words) (c .checks) (c .eight)) in
+      let sound : (k : ℕ) → k < 9 → isUnsound m k ≡ false = count-none (isUnsound m) 9 nine in
       ap₂ _&&_
       (eq-eqb _ 0 (mask-zero (isCandidate m cws) 9 (λ k l. candidate k (sound k l) ∙ count-none (meets m cws) 9 (c .apart) k l)))
       (eq-eqb _ 0 (xorAll-ext (passOne m cws) (wordAt m) 9 (λ k l. sent-held m cws k bytes (sound k l)) ∙ c .words))
@@ -148,8 +148,8 @@ module _ (m cws : List ℕ) (bytes : Bytes m) where
       let words : xorAll (wordAt m) 9 ≡ 0 = sym (xorAll-ext (passOne m cws) (wordAt m) 9 (λ k l. sent-held m cws k bytes (sound k l))) ∙ clean-parity m cws e in
       record {
         words = words;
-        checks = xor-checks m bytes 9 (count-zero (unsound m) 9 sound) ∙ ap checkOf words ∙ check-zero;
-        eight = count-zero (unsound m) 8 (λ k l. sound k (omega arith));
+        checks = xor-checks m bytes 9 (count-zero (isUnsound m) 9 sound) ∙ ap checkOf words ∙ check-zero;
+        eight = count-zero (isUnsound m) 8 (λ k l. sound k (omega arith));
         apart = count-zero (meets m cws) 9 (λ k l. sym (candidate k (sound k l)) ∙ none k l);
       }
     where
@@ -160,5 +160,5 @@ module _ (m cws : List ℕ) (bytes : Bytes m) where
       neither true b h = h
       neither false b h = refl
 
-      sound : (k : ℕ) → k < 9 → unsound m k ≡ false
-      sound k l = neither (unsound m k) (matches m cws k) (sym (candidate-is m cws k) ∙ none k l)
+      sound : (k : ℕ) → k < 9 → isUnsound m k ≡ false
+      sound k l = neither (isUnsound m k) (matches m cws k) (sym (candidate-is m cws k) ∙ none k l)

@@ -3,7 +3,7 @@ ghost use mathlib.Core.Path.{_≡_};
 ghost use lib.ListN.{length};
 ghost use Rattle.cells.specs.Cells.{chips, lineBytes};
 ghost use Rattle.cells.specs.Chips.{xorAll, mask};
-ghost use Rattle.passes.specs.Passes.{passOne, isCandidate, unsound};
+ghost use Rattle.passes.specs.Passes.{passOne, isCandidate, isUnsound};
 use super::chips;
 use cells::CHIPS;
 use cells::masks;
@@ -15,9 +15,9 @@ pub struct Heard {
 }
 
 // Registers equal to catch-words.
-pub fn pass(line: &[u8], catch_words: &[u64; CHIPS], bad: u32) -> Heard
+pub fn pass(line: &[u8], catch_words: &[u64; CHIPS], unsound: u32) -> Heard
     requires sizes { ⌜ (length (now line) ≡ lineBytes) × (length (now «catch_words») ≡ chips) ⌝ }
-    requires bad { ⌜ bad ≡ mask (unsound (now line)) chips ⌝ }
+    requires unsound { ⌜ unsound ≡ mask (isUnsound (now line)) chips ⌝ }
     ensures candidates { λ r. ⌜ r .candidates ≡ mask (isCandidate (now (line .entry)) (now («catch_words» .entry))) chips ⌝ }
     ensures parity { λ r. ⌜ r .parity ≡ xorAll (passOne (now (line .entry)) (now («catch_words» .entry))) chips ⌝ }
 {
@@ -25,7 +25,7 @@ pub fn pass(line: &[u8], catch_words: &[u64; CHIPS], bad: u32) -> Heard
     let mut parity = 0u64;
     for k in 0..CHIPS {
         let register = catch_words[k];
-        let sent = chips::sent_by(masks::member(bad, k), line, k, register);
+        let sent = chips::sent_by(masks::member(unsound, k), line, k, register);
         candidates = candidates | masks::only_if(sent == register, k);
         parity = parity ^ sent;
     }

@@ -7,7 +7,7 @@ ghost use Rattle.cells.specs.Chips.{xorAll, count};
 ghost use Rattle.cells.specs.Cells.{chips, lineBytes, wordAt, checkAt};
 ghost use Rattle.cells.specs.Checks.{everyOther};
 ghost use Rattle.passes.specs.Scan.{isClean, meets};
-ghost use Rattle.passes.specs.Passes.{unsound};
+ghost use Rattle.passes.specs.Passes.{isUnsound};
 use cells::CHIP_BYTES;
 use cells::CHIPS;
 use cells::checks;
@@ -58,7 +58,7 @@ fn check_parity(line: &[u8]) -> u8
 // Whether chips 0 to 7 hold codewords.
 fn eight_sound(line: &[u8]) -> bool
     requires { ⌜ length (now line) ≡ lineBytes ⌝ }
-    ensures { λ r. ⌜ r ≡ eqb (count (unsound (now (line .entry))) 8) 0 ⌝ }
+    ensures { λ r. ⌜ r ≡ eqb (count (isUnsound (now (line .entry))) 8) 0 ⌝ }
 {
     let asked = checks::of_eight(line, CHIP_BYTES);
     if asked.even != held(line, 0) {

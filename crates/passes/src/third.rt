@@ -6,7 +6,7 @@ ghost use lib.ListN.{length, getD};
 ghost use Rattle.code.specs.Code.{mendedWord, isBeyond};
 ghost use Rattle.cells.specs.Chips.{ofChips, xorAll, mask, inMask};
 ghost use Rattle.cells.specs.Cells.{chips, lineBytes, cellAt};
-ghost use Rattle.passes.specs.Passes.{toldAt, unsound};
+ghost use Rattle.passes.specs.Passes.{toldAt, isUnsound};
 use super::chips;
 use cells::CHIPS;
 use cells::masks;
@@ -18,16 +18,16 @@ pub struct Told {
 }
 
 // Enable clear: no chip sends its register.
-pub fn pass(line: &[u8], bad: u32) -> Told
+pub fn pass(line: &[u8], unsound: u32) -> Told
     requires size { ⌜ length (now line) ≡ lineBytes ⌝ }
-    requires bad { ⌜ bad ≡ mask (unsound (now line)) chips ⌝ }
+    requires unsound { ⌜ unsound ≡ mask (isUnsound (now line)) chips ⌝ }
     ensures words { λ r. ⌜ r .words ≡ ofChips (λ k. mendedWord (cellAt (now (line .entry)) k)) chips ⌝ }
     ensures beyond { λ r. ⌜ r .beyond ≡ mask (λ k. isBeyond (toldAt (now (line .entry)) k)) chips ⌝ }
 {
     let mut words = [0u64; CHIPS];
     let mut beyond = 0u32;
     for k in 0..CHIPS {
-        let sent = chips::mended_by(masks::member(bad, k), line, k);
+        let sent = chips::mended_by(masks::member(unsound, k), line, k);
         let status = sent.status;
         words[k] = sent.word;
         beyond = beyond | masks::only_if(code::is_beyond(status), k);

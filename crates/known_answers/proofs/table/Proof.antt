@@ -2,12 +2,11 @@
 -- Assumes nothing.
 use mathlib.Core.Path.{_≡_, refl}
 use mathlib.Core.Bool.{Bool}
-use mathlib.Core.List.{List, [], _∷_}
+use mathlib.Core.List.{List, [], _∷_, map}
 use Prim.Native.Nat.{ℕ}
 use lib.Dec.{T, eqb, eqb→eq}
 use Rattle.code.specs.Code.{cell, timesX, remainderIn, remainder, syndromeOf, checkOf, syndromeAt, positionFrom, positionOf, bitAt, mended, mendedWord}
-use Rattle.code.specs.Lists.{Every}
-use Rattle.known_answers.specs.Marked.{examples, Holds}
+use Rattle.known_answers.specs.Marked.{examples, Holds, Examples}
 use Rattle.code.specs.TestLaws.{all, all-every}
 use Rattle.known_answers.specs.declared.Marked.{Marked}
 use Rattle.known_answers.proofs.table.Statement.{statement}
@@ -27,14 +26,17 @@ test : Marked → Bool
 test m = all (λ s. eqb (s .0) (s .1)) (sides m)
 
 holds : (m : Marked) → T (test m) → Holds m
-unfolding test sides Every
+unfolding test sides
 holds m t =
     let e = all-every (λ s. s .0 ≡ s .1) (λ s. eqb (s .0) (s .1)) (λ s. eqb→eq (s .0) (s .1)) (sides m) t in
     record { has-check = e .0; has-syndrome = e .1 .0; has-position = e .1 .1 .0; mends = e .1 .1 .1 .0; mends-to = e .1 .1 .1 .1 .0 }
 
+all-hold : (rows : List Marked) → map (λ m. (m .word, m .given)) rows ≡ examples → T (all test rows) → Examples rows
+all-hold rows e t = record { these = e; hold = all-every Holds test holds rows t }
+
 returns : tie.Need-returns
 unfolding examples test sides checkOf mendedWord mended bitAt positionOf positionFrom syndromeAt syndromeOf remainder remainderIn timesX
-returns c = record { these = refl; hold = all-every Holds test holds _ tt }
+returns c = all-hold _ refl tt
 
 pub table-spec : {M : Type 1} → statement M
 table-spec = tie.close (tie.spec returns)

@@ -4,18 +4,18 @@ use Prim.Native.Nat.{ℕ, _*_, _-_, _^_, _<_}
 use native.Mathlib.Omega.{arith}
 use lib.Dec.{eqb}
 use Rattle.cells.specs.Chips.{xorAll, bit, mask}
-use Rattle.passes.specs.Passes.{sentAt, catchWord, passOne, isCandidate, unsound}
+use Rattle.passes.specs.Passes.{sentAt, catchWord, passOne, isCandidate, isUnsound}
 use Rattle.cells.proofs.Loops.{Upto, none-yet, mask-more, xor-more, upto-all, member-is}
 use borrow.Author.Needs.{needs}
 use Rattle.passes.proofs.first.pass.Statement.{statement}
 use Rattle.passes.proofs.first.pass.Tie as tie
 
 abbrev Inv-loop : tie.InvT-loop
-Inv-loop line catch-words bad candidates₀ parity₀ k₀ candidates parity k =
+Inv-loop line catch-words unsound candidates₀ parity₀ k₀ candidates parity k =
     Upto (mask (isCandidate line catch-words)) 9 candidates k × Upto (xorAll (passOne line catch-words)) 9 parity k
 
 abbrev μ-loop : tie.MeasureT-loop
-μ-loop line catch-words bad candidates₀ parity₀ k₀ candidates parity k = 9 - k
+μ-loop line catch-words unsound candidates₀ parity₀ k₀ candidates parity k = 9 - k
 
 loop-holds : tie.Need-loop-holds Inv-loop μ-loop
 unfolding mask xorAll
@@ -25,7 +25,7 @@ sent-by-requires : tie.Need-sent-by-requires Inv-loop μ-loop
 sent-by-requires c κs =
     let s = c .before .before .before .before .before in
     let inside : c .before .before .before .loop .k < 9 = omega (arith, c .before .before .loop-test .taken) in
-    ((s .pre .0 .0, inside), member-is (unsound (s .args .line .now)) (s .pre .1) inside (c .member .ensures))
+    ((s .pre .0 .0, inside), member-is (isUnsound (s .args .line .now)) (s .pre .1) inside (c .member .ensures))
 
 loop-again : tie.Need-loop-again Inv-loop μ-loop
 unfolding isCandidate passOne sentAt catchWord
