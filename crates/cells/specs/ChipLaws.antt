@@ -14,9 +14,9 @@ use lib.Bits.{bitAnd, bitXor, and-block, xor-block, xor-lt, xor-zero-r}
 use lib.ListN.{length, getD, take, length-append, List·getD-append}
 use lib.Seq.{getD-at, take-suc, take-all}
 use lib.Dec.{eqb}
-use borrow.Author.Tests.{eq-eqb, ne-eqb, eqb-true, not-false}
+use borrow.Author.Tests.{eq-eqb, ne-eqb, eqb-true, eqb-false, not-false}
 use lib.Count.{ones, onesIn, ones-cat}
-use Rattle.code.specs.XorLaws.{xor-four}
+use Rattle.code.specs.XorLaws.{xor-four, xor-cancel-r}
 use Rattle.cells.specs.Chips.{ofChips, joined, xorAll, bit, count, mask, inMask}
 
 -- where b shows a, both together are b
@@ -115,6 +115,19 @@ xorAll-but f n j l =
 
     only : ℕ → ℕ
     only k = cond (eqb k j) (f k) 0
+
+-- where g is f at each chip but j, f's value at j is taken off the xor and g's put in
+pub xorAll-change : (f g : ℕ → ℕ) (n j : ℕ) → j < n → ((k : ℕ) → k < n → (k ≡ j → ⊥) → f k ≡ g k)
+    → bitXor (bitXor (xorAll f n) (f j)) (g j) ≡ xorAll g n
+xorAll-change f g n j l h =
+    ap (λ (x : ℕ). bitXor (bitXor x (f j)) (g j)) (xorAll-but f n j l)
+    ∙ ap (λ (x : ℕ). bitXor x (g j)) (xor-cancel-r (xorAll (λ k. cond (eqb k j) 0 (f k)) n) (f j))
+    ∙ ap (λ (x : ℕ). bitXor x (g j)) (xorAll-ext _ (λ k. cond (eqb k j) 0 (g k)) n (λ k i. pick k i (eqb k j) refl))
+    ∙ sym (xorAll-but g n j l)
+  where
+    pick : (k : ℕ) → k < n → (b : Bool) → eqb k j ≡ b → cond b 0 (f k) ≡ cond b 0 (g k)
+    pick k i true e = refl
+    pick k i false e = h k i (eqb-false k j e)
 
 -- ---- masks
 

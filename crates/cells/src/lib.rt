@@ -1,7 +1,6 @@
 // A line's words and check bytes in its 81 lent bytes (document 01, "The rank"). Check bytes pass between lent bytes and codewords here
 // alone.
 ghost use mathlib.Core.Path.{_≡_};
-ghost use mathlib.Core.Bool.{cond};
 ghost use Prim.Native.Nat.{_+_, _*_, _<_};
 ghost use lib.ListN.{length};
 ghost use Rattle.code.specs.Code.{checkOf};
@@ -38,32 +37,14 @@ pub fn check_at(line: &[u8], k: usize) -> u8
     line[CHIP_BYTES * k + 8]
 }
 
-// Lays the codeword of a word in chip K.
-pub fn lay(line: &mut [u8], k: usize, word: u64)
-    requires { ⌜ (length (now line) ≡ lineBytes) × (k < chips) ⌝ }
-    ensures { λ _. ⌜ now (line .exit) ≡ withChip (now (line .entry)) k (codeword word) ⌝ }
-{
-    lay_checked(line, k, word, code::check_byte(word));
-}
-
 // Lays a word and its check byte, which the caller has, in chip K.
-fn lay_checked(line: &mut [u8], k: usize, word: u64, check: u8)
+pub fn lay_checked(line: &mut [u8], k: usize, word: u64, check: u8)
     requires sizes { ⌜ (length (now line) ≡ lineBytes) × (k < chips) ⌝ }
     requires check { ⌜ check ≡ checkOf word ⌝ }
     ensures { λ _. ⌜ now (line .exit) ≡ withChip (now (line .entry)) k (codeword word) ⌝ }
 {
     words::store_word(line, CHIP_BYTES * k, word);
     words::store_byte(line, CHIP_BYTES * k + 8, check);
-}
-
-// Lays the codeword of a word in chip K where a test holds.
-pub fn lay_if(test: bool, line: &mut [u8], k: usize, word: u64)
-    requires { ⌜ (length (now line) ≡ lineBytes) × (k < chips) ⌝ }
-    ensures { λ _. ⌜ now (line .exit) ≡ cond test (withChip (now (line .entry)) k (codeword word)) (now (line .entry)) ⌝ }
-{
-    if test {
-        lay(line, k, word);
-    }
 }
 
 // Lays the nine codewords of a line's 64 bytes.

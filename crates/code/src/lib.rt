@@ -1,9 +1,9 @@
 // The code inside a chip: CRC-8 with the polynomial x^8 + x^2 + x + 1 (document 01, "The code inside a chip"), and what a chip tells of a
 // word that it sends with Enable clear (document 02, Req 02).
 ghost use mathlib.Core.Path.{_≡_};
-ghost use Prim.Native.Nat.{_*_, _/_};
+ghost use Prim.Native.Nat.{_+_, _*_, _/_, _%_};
 ghost use lib.Count.{trailingZeros};
-ghost use Rattle.code.specs.Code.{cell, timesX, syndromeOf, isCodeword, checkOf, positionOf, bitAt, mendedWord, statusAt, statusOf, isBeyond};
+ghost use Rattle.code.specs.Code.{cell, timesX, syndromeOf, checkOf, positionOf, bitAt, mended, mendedWord, statusAt, statusOf, isBeyond};
 ghost use Rattle.code.specs.Fold.{Folded};
 ghost use Rattle.code.specs.Walks.{eachByte, markIf};
 
@@ -15,9 +15,10 @@ pub enum Status {
     Beyond,
 }
 
-// Nine bytes after mending: the word, and what is told of it.
+// Nine bytes after mending: the word and the check byte, and what is told of them.
 pub struct Mending {
     pub word: u64,
+    pub check: u8,
     pub status: Status,
 }
 
@@ -35,13 +36,6 @@ pub fn syndrome(word: u64, check: u8) -> u8
     check_byte(word) ^ check
 }
 
-// Whether a word and a check byte are a codeword.
-pub fn is_codeword(word: u64, check: u8) -> bool
-    ensures { λ r. ⌜ r ≡ isCodeword (cell word check) ⌝ }
-{
-    syndrome(word, check) == 0
-}
-
 // The powers of x at which eight walks begin, one in each byte: x^0 in the lowest, then x^9, and so on to x^63.
 const STARTS: u64 = 0x8a76_6467_5154_0e01;
 
@@ -52,22 +46,34 @@ const ONE_EACH: u64 = 0x0101_0101_0101_0101;
 const LOW_EACH: u64 = 0x7f7f_7f7f_7f7f_7f7f;
 
 // The position, from 0 to 71, of a syndrome; 255 stands for no position. The positions' syndromes are the powers of x from x^0 up, each the
-// one before times x, and are walked through until this one comes (document 02, Req 03). Eight walks go side by side in the bytes of a
-// number, walk j from position 9j up, so that nine steps go through all 72.
+// one before times x, and are walked through (document 02, Req 03). Eight walks go side by side in the bytes of a number, walk j from
+// position 9j up, so that nine steps go through all 72. No step branches on what it found, since such a branch is mispredicted: each adds it
+// to `found`, step i in bit i of the walk's byte. A byte has no bit for the ninth step, which is asked by itself.
 pub fn position(syndrome: u8) -> u8
     ensures { λ r. ⌜ r ≡ positionOf syndrome ⌝ }
 {
     let mut powers = STARTS;
-    let mut i = 0;
-    while i < 9 {
-        let found = walks_at(syndrome, powers);
-        if found != 0 {
-            return 9 * lowest_byte(found) + i;
-        }
+    let mut found = 0u64;
+    for i in 0..8u64 {
+        found = found + (walks_at(syndrome, powers) >> (7 - i));
         powers = times_x(powers);
-        i += 1;
+    }
+    if found != 0 {
+        return position_found(found);
+    }
+    let last = walks_at(syndrome, powers);
+    if last != 0 {
+        return 9 * lowest_byte(last) + 8;
     }
     255
+}
+
+// The position that the lowest bit of `found` stands for: bit i of byte j for 9j + i. With no bit set it is 72.
+fn position_found(found: u64) -> u8
+    ensures { λ r. ⌜ r ≡ 9 * (trailingZeros 64 found / 8) + trailingZeros 64 found % 8 ⌝ }
+{
+    let bit = u64::trailing_zeros(found);
+    (9 * (bit / 8) + bit % 8) as u8
 }
 
 // The highest bit of each byte whose walk is at a syndrome: there a byte of `difference` is zero. Elsewhere its highest bit is set, or the
@@ -95,22 +101,26 @@ fn times_x(powers: u64) -> u64
     ((powers & LOW_EACH) << 1) ^ (((powers >> 7) & ONE_EACH) * 0x07)
 }
 
-// The word after mending, document 01's M, and its status. A codeword is sound, though its syndrome has position 255.
-pub fn mend(word: u64, check: u8) -> Mending
+// The nine bytes after mending, whose word is document 01's M, and their status, from their syndrome. A codeword is sound, though its
+// syndrome has position 255.
+pub fn mend(word: u64, check: u8, syndrome: u8) -> Mending
+    requires { ⌜ syndrome ≡ syndromeOf (cell word check) ⌝ }
     ensures word { λ r. ⌜ r .word ≡ mendedWord (cell word check) ⌝ }
+    ensures check { λ r. ⌜ r .check ≡ mended (cell word check) % 256 ⌝ }
     ensures status { λ r. ⌜ r .status ≡ statusOf (cell word check) ⌝ }
 {
-    let s = syndrome(word, check);
-    if s == 0 {
+    if syndrome == 0 {
         return Mending {
             word,
+            check,
             status: Status::Sound,
         };
     }
-    let place = position(s);
+    let place = position(syndrome);
     let status = status_at(place);
     Mending {
         word: word ^ word_bit(place),
+        check: check ^ check_bit(place),
         status,
     }
 }
@@ -148,6 +158,13 @@ fn word_bit(position: u8) -> u64
     } else {
         0
     }
+}
+
+// The bit of the check byte at a position: none at the word's positions, and none for 255.
+fn check_bit(position: u8) -> u8
+    ensures { λ r. ⌜ r ≡ bitAt position % 256 ⌝ }
+{
+    if position < 8 { 1 << position } else { 0 }
 }
 
 // A fold leaves a shorter polynomial with the same remainder. This one folds the word times x^8 at x^40,

@@ -1,4 +1,5 @@
 pub mod Visit
+pub mod Found
 pub mod Damage
 pub mod Former
 pub mod VisitLaws

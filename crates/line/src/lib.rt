@@ -2,22 +2,24 @@
 // record is in crate `record`.
 ghost use mathlib.Core.Path.{_≡_};
 ghost use mathlib.Core.Bool.{cond};
-ghost use Prim.Native.Nat.{_<_};
-ghost use lib.Bits.{bitXor};
+ghost use Prim.Native.Nat.{_^_, _<_};
 ghost use lib.Count.{ones};
-ghost use lib.Dec.{eqb};
-ghost use lib.ListN.{length, getD};
-ghost use Rattle.cells.specs.Chips.{ofChips, joined, xorAll, mask, inMask};
+ghost use lib.Dec.{eqb, ltb};
+ghost use lib.ListN.{length, getD, set};
+ghost use Rattle.code.specs.Code.{checkOf};
+ghost use Rattle.cells.specs.Chips.{joined, xorAll, mask, inMask, AtPlaces};
 ghost use Rattle.cells.specs.Cells.{chips, lineBytes, chipAt, codeword};
-ghost use Rattle.passes.specs.Passes.{catchWord, passOne, isCandidate, isFlagged, isUnsound};
-ghost use Rattle.line.specs.Visit.{outcomeOf, withWords, writtenBack, bytesAfter, passesOf, reportOf, refusalOf};
+ghost use Rattle.passes.specs.Passes.{passOne, isFlagged};
+ghost use Rattle.passes.specs.Syndromes.{syndromesOf};
+ghost use Rattle.line.specs.Visit.{outcomeOf, wordOf, bytesAfter, reportOf, refusalOf};
+ghost use Rattle.line.specs.Found.{ChecksIfAnswered};
 ghost use Rattle.line.specs.declared.Outcome.the-variants.{Answered, Refused};
 use cells::CHIPS;
 use cells::masks;
 use passes::first;
-use passes::first::Heard;
 use passes::second;
-use passes::sound;
+use passes::syndromes;
+use passes::syndromes::Syndromes;
 use passes::third;
 
 // Refusals of a visit, by their number in document 01: none flagged and the words don't xor to zero; two or more flagged, and two or more of
@@ -49,8 +51,9 @@ pub fn visit(line: &mut [u8], catch_words: &[u64; CHIPS]) -> Report
     ensures report { λ r. ⌜ r ≡ reportOf (now (line .entry)) (now («catch_words» .entry)) ⌝ }
     ensures bytes { λ _. ⌜ now (line .exit) ≡ bytesAfter (now (line .entry)) (now («catch_words» .entry)) ⌝ }
 {
-    // Whether a chip holds a codeword is worked out once, for all passes.
-    let unsound = sound::unsound_chips(line);
+    // The syndromes are made once, for all passes.
+    let syndromes = syndromes::of_line(line);
+    let unsound = syndromes::unsound_chips(syndromes);
     // Step 1.
     let heard = first::pass(line, catch_words, unsound);
     let candidates = heard.candidates;
@@ -58,9 +61,18 @@ pub fn visit(line: &mut [u8], catch_words: &[u64; CHIPS]) -> Report
     let flagged = second::pass(line, catch_words, unsound, candidates);
     let collisions = candidates & (flagged ^ ALL_CHIPS);
     // Steps 3 to 5.
-    let found = resolve(line, catch_words, unsound, heard, flagged);
-    let outcome = found.outcome;
-    let passes = found.passes;
+    let passes = passes_made(candidates, flagged);
+    let mut words = [0u64; CHIPS];
+    let mut checks = [0u8; CHIPS];
+    let outcome = resolve(
+        line,
+        catch_words,
+        syndromes,
+        heard.parity,
+        flagged,
+        &mut words,
+        &mut checks,
+    );
     // Step 6. Only an answered line is written back.
     let Outcome::Answered = outcome else {
         return Report {
@@ -70,8 +82,7 @@ pub fn visit(line: &mut [u8], catch_words: &[u64; CHIPS]) -> Report
             collisions,
         };
     };
-    let words = found.words;
-    write_back(line, flagged, words);
+    write_back(line, flagged, &words, &checks);
     Report {
         outcome,
         passes,
@@ -90,95 +101,93 @@ pub fn refusal(outcome: Outcome) -> u32
     }
 }
 
-// What steps 3 to 5 find: the outcome, the passes made by then, and the words of the flagged chips, each at its chip's place. What stands at
-// the others' places is not looked at.
-struct Found {
-    outcome: Outcome,
-    passes: u32,
-    words: [u64; CHIPS],
-}
-
-// Steps 3 to 5, by how many chips are flagged.
+// Steps 3 to 5, by how many chips are flagged. The words of the flagged chips, and their check bytes if the line is answered, are put at the
+// chips' places; what stands at the others' is not looked at.
 fn resolve(
     line: &[u8],
     catch_words: &[u64; CHIPS],
-    unsound: u32,
-    heard: Heard,
+    syndromes: Syndromes,
+    parity: u64,
     flagged: u32,
-) -> Found
-    requires sizes { ⌜ (length (now line) ≡ lineBytes) × (length (now «catch_words») ≡ chips) ⌝ }
-    requires unsound { ⌜ unsound ≡ mask (isUnsound (now line)) chips ⌝ }
-    requires candidates { ⌜ heard .candidates ≡ mask (isCandidate (now line) (now «catch_words»)) chips ⌝ }
-    requires parity { ⌜ heard .parity ≡ xorAll (passOne (now line) (now «catch_words»)) chips ⌝ }
+    words: &mut [u64; CHIPS],
+    checks: &mut [u8; CHIPS],
+) -> Outcome
+    requires sizes { ⌜ (length (now line) ≡ lineBytes) × (length (now «catch_words») ≡ chips) × (length (now words) ≡ chips) × (length (now checks) ≡ chips) ⌝ }
+    requires syndromes { ⌜ syndromes ≡ syndromesOf (now line) ⌝ }
+    requires parity { ⌜ parity ≡ xorAll (passOne (now line) (now «catch_words»)) chips ⌝ }
     requires flagged { ⌜ flagged ≡ mask (isFlagged (now line) (now «catch_words»)) chips ⌝ }
-    ensures outcome { λ r. ⌜ r .outcome ≡ outcomeOf (now (line .entry)) (now («catch_words» .entry)) ⌝ }
-    ensures passes { λ r. ⌜ r .passes ≡ passesOf (now (line .entry)) (now («catch_words» .entry)) ⌝ }
-    ensures words { λ r. ⌜ withWords (λ k. getD (r .words) k 0) (now (line .entry)) (now («catch_words» .entry)) ≡ writtenBack (now (line .entry)) (now («catch_words» .entry)) ⌝ }
+    ensures outcome { λ r. ⌜ r ≡ outcomeOf (now (line .entry)) (now («catch_words» .entry)) ⌝ }
+    ensures words { λ _. ⌜ AtPlaces (isFlagged (now (line .entry)) (now («catch_words» .entry))) (wordOf (now (line .entry)) (now («catch_words» .entry))) (now (words .exit)) chips ⌝ }
+    ensures checks { λ r. ⌜ ChecksIfAnswered r (isFlagged (now (line .entry)) (now («catch_words» .entry))) (now (words .exit)) (now (checks .exit)) ⌝ }
+    ensures sizes { λ _. ⌜ (length (now (words .exit)) ≡ chips) × (length (now (checks .exit)) ≡ chips) ⌝ }
 {
     let flags = u32::count_ones(flagged);
     if flags == 0 {
-        let outcome = must_cancel(heard.parity, PARITY);
-        let passes = passes_to_two(heard.candidates);
-        return Found {
-            outcome,
-            passes,
-            words: [0u64; CHIPS],
-        };
+        return must_cancel(parity, PARITY);
     }
     if flags == 1 {
-        let words = rebuilt(catch_words, heard.parity);
-        return Found {
-            outcome: Outcome::Answered,
-            passes: 2,
-            words,
-        };
+        // The one flagged chip sent its catch-word, which is taken off the xor of all nine.
+        let k = masks::lowest(flagged);
+        put(words, checks, k, parity ^ catch_words[k]);
+        return Outcome::Answered;
     }
-    mend_flagged(line, catch_words, unsound, flagged)
+    mend_flagged(line, catch_words, syndromes, parity, flagged, words, checks)
 }
 
-// Step 5, by how many of the flagged chips are beyond mending (document 02, Req 02). The catch-words are given for the contract alone.
-fn mend_flagged(line: &[u8], catch_words: &[u64; CHIPS], unsound: u32, flagged: u32) -> Found
-    requires sizes { ⌜ (length (now line) ≡ lineBytes) × (length (now «catch_words») ≡ chips) ⌝ }
-    requires unsound { ⌜ unsound ≡ mask (isUnsound (now line)) chips ⌝ }
+// Step 5, by how many of the flagged chips are beyond mending (document 02, Req 02).
+fn mend_flagged(
+    line: &[u8],
+    catch_words: &[u64; CHIPS],
+    syndromes: Syndromes,
+    parity: u64,
+    flagged: u32,
+    words: &mut [u64; CHIPS],
+    checks: &mut [u8; CHIPS],
+) -> Outcome
+    requires sizes { ⌜ (length (now line) ≡ lineBytes) × (length (now «catch_words») ≡ chips) × (length (now words) ≡ chips) × (length (now checks) ≡ chips) ⌝ }
+    requires syndromes { ⌜ syndromes ≡ syndromesOf (now line) ⌝ }
+    requires parity { ⌜ parity ≡ xorAll (passOne (now line) (now «catch_words»)) chips ⌝ }
     requires flagged { ⌜ flagged ≡ mask (isFlagged (now line) (now «catch_words»)) chips ⌝ }
     requires several { ⌜ 1 < ones flagged ⌝ }
-    ensures outcome { λ r. ⌜ r .outcome ≡ outcomeOf (now (line .entry)) (now («catch_words» .entry)) ⌝ }
-    ensures passes { λ r. ⌜ r .passes ≡ passesOf (now (line .entry)) (now («catch_words» .entry)) ⌝ }
-    ensures words { λ r. ⌜ withWords (λ k. getD (r .words) k 0) (now (line .entry)) (now («catch_words» .entry)) ≡ writtenBack (now (line .entry)) (now («catch_words» .entry)) ⌝ }
+    ensures outcome { λ r. ⌜ r ≡ outcomeOf (now (line .entry)) (now («catch_words» .entry)) ⌝ }
+    ensures words { λ _. ⌜ AtPlaces (isFlagged (now (line .entry)) (now («catch_words» .entry))) (wordOf (now (line .entry)) (now («catch_words» .entry))) (now (words .exit)) chips ⌝ }
+    ensures checks { λ r. ⌜ ChecksIfAnswered r (isFlagged (now (line .entry)) (now («catch_words» .entry))) (now (words .exit)) (now (checks .exit)) ⌝ }
+    ensures sizes { λ _. ⌜ (length (now (words .exit)) ≡ chips) × (length (now (checks .exit)) ≡ chips) ⌝ }
 {
-    let told = third::pass(line, unsound);
-    let words = told.words;
-    let parity = third::xor_all(words);
-    let beyond = flagged & told.beyond;
+    let told = third::pass(line, catch_words, syndromes, parity, flagged, words, checks);
+    let beyond = told.beyond;
     let count = u32::count_ones(beyond);
     if count == 0 {
-        let outcome = must_cancel(parity, MENDED);
-        return Found {
-            outcome,
-            passes: 3,
-            words,
-        };
+        return must_cancel(told.parity, MENDED);
     }
     if count == 1 {
-        let rebuilt = third::rebuilt(words, parity, beyond);
-        return Found {
-            outcome: Outcome::Answered,
-            passes: 3,
-            words: rebuilt,
-        };
+        // What the one chip beyond mending sent is taken off the xor of all nine.
+        let k = masks::lowest(beyond);
+        let own = words[k];
+        put(words, checks, k, told.parity ^ own);
+        return Outcome::Answered;
     }
-    Found {
-        outcome: Outcome::Refused(MENDED),
-        passes: 3,
-        words,
-    }
+    Outcome::Refused(MENDED)
 }
 
-// The passes made where there is no pass three: pass two is made if there are candidates.
-fn passes_to_two(candidates: u32) -> u32
-    ensures { λ r. ⌜ r ≡ cond (eqb candidates 0) 1 2 ⌝ }
+// Puts a word and its check byte at chip K's place.
+fn put(words: &mut [u64; CHIPS], checks: &mut [u8; CHIPS], k: usize, word: u64)
+    requires { ⌜ (length (now words) ≡ chips) × (length (now checks) ≡ chips) × (k < chips) ⌝ }
+    ensures words { λ _. ⌜ now (words .exit) ≡ set (now (words .entry)) k word ⌝ }
+    ensures checks { λ _. ⌜ now (checks .exit) ≡ set (now (checks .entry)) k (checkOf word) ⌝ }
 {
-    if candidates == 0 { 1 } else { 2 }
+    words[k] = word;
+    checks[k] = code::check_byte(word);
+}
+
+// The passes made: pass two if there are candidates, pass three if two or more of them are flagged.
+fn passes_made(candidates: u32, flagged: u32) -> u32
+    ensures { λ r. ⌜ r ≡ cond (eqb candidates 0) 1 (cond (ltb 1 (ones flagged)) 3 2) ⌝ }
+{
+    if candidates == 0 {
+        return 1;
+    }
+    if 1 < u32::count_ones(flagged) { 3 } else { 2 }
 }
 
 // Words must xor to zero, else they are refused by a number.
@@ -192,26 +201,17 @@ fn must_cancel(parity: u64, number: u32) -> Outcome
     }
 }
 
-// At each chip's place, its word if it is the one chip flagged: that chip sent its catch-word, which is taken off the xor of all nine.
-fn rebuilt(catch_words: &[u64; CHIPS], parity: u64) -> [u64; CHIPS]
-    requires { ⌜ length (now «catch_words») ≡ chips ⌝ }
-    ensures { λ r. ⌜ r ≡ ofChips (λ k. bitXor parity (catchWord (now («catch_words» .entry)) k)) chips ⌝ }
-{
-    let mut words = [0u64; CHIPS];
-    for k in 0..CHIPS {
-        let own = catch_words[k];
-        words[k] = parity ^ own;
-    }
-    words
-}
-
 // Each flagged chip gets its word and check byte.
-fn write_back(line: &mut [u8], flagged: u32, words: [u64; CHIPS])
-    requires { ⌜ length (now line) ≡ lineBytes ⌝ }
-    ensures { λ _. ⌜ now (line .exit) ≡ joined (λ k. cond (inMask flagged k) (codeword (getD words k 0)) (chipAt (now (line .entry)) k)) chips ⌝ }
+fn write_back(line: &mut [u8], flagged: u32, words: &[u64; CHIPS], checks: &[u8; CHIPS])
+    requires sizes { ⌜ (length (now line) ≡ lineBytes) × (length (now words) ≡ chips) × (length (now checks) ≡ chips) ⌝ }
+    requires flagged { ⌜ flagged < 2 ^ chips ⌝ }
+    requires checks { ⌜ AtPlaces (inMask flagged) (λ k. checkOf (getD (now words) k 0)) (now checks) chips ⌝ }
+    ensures { λ _. ⌜ now (line .exit) ≡ joined (λ k. cond (inMask flagged k) (codeword (getD (now (words .entry)) k 0)) (chipAt (now (line .entry)) k)) chips ⌝ }
 {
-    for k in 0..CHIPS {
-        let flag = masks::member(flagged, k);
-        cells::lay_if(flag, line, k, words[k]);
+    let mut rest = flagged;
+    while rest != 0 {
+        let k = masks::lowest(rest);
+        cells::lay_checked(line, k, words[k], checks[k]);
+        rest = masks::without_lowest(rest);
     }
 }

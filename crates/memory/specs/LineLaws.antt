@@ -5,7 +5,7 @@ use mathlib.Core.Path.{_≡_, refl, ap, _∙_}
 use mathlib.Core.Logic.{_≢_}
 use mathlib.Core.Bool.{Bool, true, false}
 use mathlib.Core.List.{List}
-use Prim.Native.Nat.{ℕ, zero, suc, _+_, _*_, _≤_, _<_}
+use Prim.Native.Nat.{ℕ, zero, suc, _+_, _*_, _≤_}
 use native.Mathlib.Omega.{arith}
 use lib.Dec.{ltb}
 use lib.ListN.{length, take, drop, drop-of-length-le}
@@ -48,18 +48,14 @@ pub length-lineAt : (m : List ℕ) (l : ℕ) → 81 * l + 81 ≤ length m → le
 unfolding lineAt
 length-lineAt m l fits = length-bytesFrom 81 (81 * l) m fits
 
--- a memory of n lines
-module _ (m : List ℕ) (n : ℕ) (size : length m ≡ 81 * n) (l : ℕ) (in-n : l < n) where
-  pub length-line : length (lineAt m l) ≡ 81
-  length-line = length-lineAt m l (omega arith)
+-- a line laid at a place that lies in the memory
+module _ (m : List ℕ) (l : ℕ) (fits : 81 * l + 81 ≤ length m) (bs : List ℕ) (full : length bs ≡ 81) where
+  -- the line holds what was laid
+  pub line-laid : lineAt (withLine m l bs) l ≡ bs
+  unfolding lineAt withLine
+  line-laid = block-laid 81 m bs l full (omega arith)
 
-  module _ (bs : List ℕ) (full : length bs ≡ 81) where
-    -- the line holds what was laid
-    pub line-laid : lineAt (withLine m l bs) l ≡ bs
-    unfolding lineAt withLine
-    line-laid = block-laid 81 m bs l full (omega arith)
-
-    -- the other lines are as they were
-    pub line-other : (j : ℕ) → j ≢ l → lineAt (withLine m l bs) j ≡ lineAt m j
-    unfolding lineAt withLine
-    line-other j ne = block-other 81 m bs l full (omega arith) j ne
+  -- the other lines are as they were
+  pub line-other : (j : ℕ) → j ≢ l → lineAt (withLine m l bs) j ≡ lineAt m j
+  unfolding lineAt withLine
+  line-other j ne = block-other 81 m bs l full (omega arith) j ne

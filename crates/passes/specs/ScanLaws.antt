@@ -9,9 +9,9 @@ use native.Mathlib.Omega.{arith}
 use lib.Dec.{eqb}
 use borrow.Author.Tests.{eq-eqb, eqb-true, not-false}
 use Rattle.code.specs.Code.{cell, syndromeOf, isCodeword, checkOf}
-use Rattle.code.specs.CodeLaws.{syndrome-of, codeword-syndrome, syndrome-codeword, check-lt, check-makes, check-only, check-zero}
+use Rattle.code.specs.CodeLaws.{codeword-syndrome, syndrome-codeword, check-lt, check-makes, check-only, check-zero}
 use Rattle.lanes.specs.Lanes.{lanes}
-use Rattle.code.specs.XorLaws.{xor-zero-eq, xor-test}
+use Rattle.code.specs.XorLaws.{xor-zero-eq}
 use Rattle.cells.specs.Chips.{xorAll, count, mask}
 use Rattle.cells.specs.Cells.{wordAt, checkAt, cellAt}
 use Rattle.code.specs.TestLaws.{and-first, and-second}
@@ -54,12 +54,6 @@ module _ (m : List ℕ) (bytes : Bytes m) where
   unfolding isUnsound cellAt
   check-sound k e =
       ap not (syndrome-codeword (cellAt m k) (ap (λ (b : ℕ). syndromeOf (cell (wordAt m k) b)) e ∙ check-makes (wordAt m k)))
-
-  -- whether it holds a codeword, by its check byte
-  pub check-tells : (k : ℕ) → not (eqb (checkOf (wordAt m k)) (checkAt m k)) ≡ isUnsound m k
-  unfolding isUnsound cellAt isCodeword
-  check-tells k =
-      sym (ap not (ap (λ (s : ℕ). eqb s 0) (syndrome-of (wordAt m k) (checkAt m k) (check-fits k)) ∙ xor-test (checkOf (wordAt m k)) (checkAt m k)))
 
   -- ---- eight chips, every other one at a time
 

@@ -5,6 +5,7 @@ ghost use Rattle.cells.specs.Cells.{chips, lineBytes};
 ghost use Rattle.cells.specs.Chips.{xorAll, mask};
 ghost use Rattle.passes.specs.Passes.{passOne, isCandidate, isUnsound};
 use super::chips;
+use super::met;
 use cells::CHIPS;
 use cells::masks;
 
@@ -14,20 +15,19 @@ pub struct Heard {
     pub parity: u64,
 }
 
-// Registers equal to catch-words.
+// Registers equal to catch-words. A chip that holds no codeword sends its register, and so its catch-word; one that holds a codeword sends
+// its word. The candidates are the chips that hold no codeword and those whose word is their catch-word.
 pub fn pass(line: &[u8], catch_words: &[u64; CHIPS], unsound: u32) -> Heard
     requires sizes { ⌜ (length (now line) ≡ lineBytes) × (length (now «catch_words») ≡ chips) ⌝ }
     requires unsound { ⌜ unsound ≡ mask (isUnsound (now line)) chips ⌝ }
     ensures candidates { λ r. ⌜ r .candidates ≡ mask (isCandidate (now (line .entry)) (now («catch_words» .entry))) chips ⌝ }
     ensures parity { λ r. ⌜ r .parity ≡ xorAll (passOne (now (line .entry)) (now («catch_words» .entry))) chips ⌝ }
 {
-    let mut candidates = 0u32;
+    let candidates = unsound | met::of_line(line, catch_words);
     let mut parity = 0u64;
     for k in 0..CHIPS {
-        let register = catch_words[k];
-        let sent = chips::sent_by(masks::member(unsound, k), line, k, register);
-        candidates = candidates | masks::only_if(sent == register, k);
-        parity = parity ^ sent;
+        let is_unsound = masks::member(unsound, k);
+        parity = parity ^ chips::sent_by(is_unsound, line, k, catch_words[k]);
     }
     Heard { candidates, parity }
 }

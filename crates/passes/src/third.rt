@@ -1,66 +1,60 @@
 // Pass three of a visit.
 ghost use mathlib.Core.Path.{_≡_};
-ghost use mathlib.Core.Bool.{cond};
-ghost use lib.Bits.{bitXor};
-ghost use lib.ListN.{length, getD};
-ghost use Rattle.code.specs.Code.{mendedWord, isBeyond};
-ghost use Rattle.cells.specs.Chips.{ofChips, xorAll, mask, inMask};
+ghost use Prim.Native.Nat.{_%_};
+ghost use lib.ListN.{length};
+ghost use Rattle.code.specs.Code.{mended, mendedWord};
+ghost use Rattle.cells.specs.Chips.{xorAll, mask, AtPlaces};
 ghost use Rattle.cells.specs.Cells.{chips, lineBytes, cellAt};
-ghost use Rattle.passes.specs.Passes.{toldAt, isUnsound};
-use super::chips;
+ghost use Rattle.passes.specs.Passes.{passOne, passThree, isFlagged, isFlaggedBeyond};
+ghost use Rattle.passes.specs.Syndromes.{syndromesOf};
+use super::syndromes;
+use super::syndromes::Syndromes;
 use cells::CHIPS;
 use cells::masks;
 
-// What pass three tells: the nine words sent, and the chips that are beyond mending.
+// What pass three tells: the xor of the nine words sent, and the flagged chips that are beyond mending.
 pub struct Told {
-    pub words: [u64; CHIPS],
+    pub parity: u64,
     pub beyond: u32,
 }
 
-// Enable clear: no chip sends its register.
-pub fn pass(line: &[u8], unsound: u32) -> Told
-    requires size { ⌜ length (now line) ≡ lineBytes ⌝ }
-    requires unsound { ⌜ unsound ≡ mask (isUnsound (now line)) chips ⌝ }
-    ensures words { λ r. ⌜ r .words ≡ ofChips (λ k. mendedWord (cellAt (now (line .entry)) k)) chips ⌝ }
-    ensures beyond { λ r. ⌜ r .beyond ≡ mask (λ k. isBeyond (toldAt (now (line .entry)) k)) chips ⌝ }
+// Enable clear: no chip sends its register. A chip that holds a codeword sends its word, as in pass one; a flagged chip sends M of its nine
+// bytes in place of its catch-word. That word, and the check byte after mending, are put at the chip's place.
+pub fn pass(
+    line: &[u8],
+    catch_words: &[u64; CHIPS],
+    syndromes: Syndromes,
+    parity: u64,
+    flagged: u32,
+    words: &mut [u64; CHIPS],
+    checks: &mut [u8; CHIPS],
+) -> Told
+    requires sizes { ⌜ (length (now line) ≡ lineBytes) × (length (now «catch_words») ≡ chips) × (length (now words) ≡ chips) × (length (now checks) ≡ chips) ⌝ }
+    requires syndromes { ⌜ syndromes ≡ syndromesOf (now line) ⌝ }
+    requires parity { ⌜ parity ≡ xorAll (passOne (now line) (now «catch_words»)) chips ⌝ }
+    requires flagged { ⌜ flagged ≡ mask (isFlagged (now line) (now «catch_words»)) chips ⌝ }
+    ensures parity { λ r. ⌜ r .parity ≡ xorAll (passThree (now (line .entry)) (now («catch_words» .entry))) chips ⌝ }
+    ensures beyond { λ r. ⌜ r .beyond ≡ mask (isFlaggedBeyond (now (line .entry)) (now («catch_words» .entry))) chips ⌝ }
+    ensures words { λ _. ⌜ AtPlaces (isFlagged (now (line .entry)) (now («catch_words» .entry))) (λ k. mendedWord (cellAt (now (line .entry)) k)) (now (words .exit)) chips ⌝ }
+    ensures checks { λ _. ⌜ AtPlaces (isFlagged (now (line .entry)) (now («catch_words» .entry))) (λ k. mended (cellAt (now (line .entry)) k) % 256) (now (checks .exit)) chips ⌝ }
+    ensures sizes { λ _. ⌜ (length (now (words .exit)) ≡ chips) × (length (now (checks .exit)) ≡ chips) ⌝ }
 {
-    let mut words = [0u64; CHIPS];
+    let mut xor = parity;
     let mut beyond = 0u32;
-    for k in 0..CHIPS {
-        let sent = chips::mended_by(masks::member(unsound, k), line, k);
+    let mut rest = flagged;
+    while rest != 0 {
+        let k = masks::lowest(rest);
+        let syndrome = syndromes::of_chip(syndromes, k);
+        let sent = code::mend(cells::word_at(line, k), cells::check_at(line, k), syndrome);
         let status = sent.status;
         words[k] = sent.word;
+        checks[k] = sent.check;
+        xor = xor ^ catch_words[k] ^ sent.word;
         beyond = beyond | masks::only_if(code::is_beyond(status), k);
+        rest = masks::without_lowest(rest);
     }
-    Told { words, beyond }
-}
-
-// The xor of nine words.
-pub fn xor_all(words: [u64; CHIPS]) -> u64
-    ensures { λ r. ⌜ r ≡ xorAll (λ k. getD words k 0) chips ⌝ }
-{
-    let mut parity = 0u64;
-    for k in 0..CHIPS {
-        parity = parity ^ words[k];
+    Told {
+        parity: xor,
+        beyond,
     }
-    parity
-}
-
-// The words with a parity xored in at the chips of a mask. Where it is the xor of all nine, such a chip gets the xor of the other eight.
-pub fn rebuilt(words: [u64; CHIPS], parity: u64, beyond: u32) -> [u64; CHIPS]
-    ensures { λ r. ⌜ r ≡ ofChips (λ k. bitXor (getD words k 0) (cond (inMask beyond k) parity 0)) chips ⌝ }
-{
-    let mut out = [0u64; CHIPS];
-    for k in 0..CHIPS {
-        let own = words[k];
-        out[k] = own ^ word_if(masks::member(beyond, k), parity);
-    }
-    out
-}
-
-// A word where a test holds, else zero.
-fn word_if(test: bool, word: u64) -> u64
-    ensures { λ r. ⌜ r ≡ cond test word 0 ⌝ }
-{
-    if test { word } else { 0 }
 }

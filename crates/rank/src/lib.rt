@@ -6,6 +6,7 @@ ghost use Rattle.rank.specs.Calls.{bootOf, writeOf, readOf, patrolOf, re
 use record::Rank;
 use visits::ReadResult;
 use visits::read;
+use visits::read::Visited;
 use visits::sweep;
 
 // What boot, write, renew and fault return: a refusal by its number in document 01, 0 for none, and the record.
@@ -52,11 +53,13 @@ pub extern "C" fn rank_write(rank: Rank, memory: &mut [u8], line: u32, bytes: &[
     ensures memory { λ _. ⌜ now (memory .exit) ≡ writeOf rank (now (memory .entry)) line (now (bytes .entry)) .memory ⌝ }
 {
     let refusal = refusals::of_write(rank, memory, line, bytes);
-    if refusal != 0 {
-        return Called { refusal, rank };
+    if refusal == 0 {
+        memory::lay(memory, line, bytes);
     }
-    memory::lay(memory, line, bytes);
-    Called { refusal: 0, rank }
+    Called {
+        refusal,
+        rank: record::kept(rank),
+    }
 }
 
 // Read: a visit, for a task, that puts the line in a 64-byte buffer.
@@ -72,17 +75,28 @@ pub extern "C" fn rank_read(
     ensures memory { λ _. ⌜ now (memory .exit) ≡ readOf rank (now (memory .entry)) task line (now (buffer .entry)) .memory ⌝ }
     ensures buffer { λ _. ⌜ now (buffer .exit) ≡ readOf rank (now (memory .entry)) task line (now (buffer .entry)) .buffer ⌝ }
 {
-    let refusal = refusals::of_read(rank, memory, task, line, buffer);
-    if refusal != 0 {
-        return ReadResult {
-            refusal,
-            passes: 0,
-            flagged: 0,
-            collisions: 0,
-            rank,
-        };
+    // One local holds the record from the first test to the result: the compiler then copies it whole.
+    let mut after = rank;
+    let refusal = refusals::of_read(after, memory, task, line, buffer);
+    let mut visited = Visited {
+        refusal,
+        passes: 0,
+        flagged: 0,
+        collisions: 0,
+    };
+    if refusal == 0 {
+        visited = read::visit_into(&mut after.catch_words, memory, line, buffer);
+        record::count(&mut after.repairs, task, visited.refusal, visited.flagged);
+        let words = after.catch_words;
+        record::set_registers(&mut after.registers, words, visited.collisions);
     }
-    read::visit_into(rank, memory, task, line, buffer)
+    ReadResult {
+        refusal: visited.refusal,
+        passes: visited.passes,
+        flagged: visited.flagged,
+        collisions: visited.collisions,
+        rank: after,
+    }
 }
 
 // Patrol (patrol scrub): visits min(budget, N − first) lines from a first line upwards, for one task. A refused line doesn't stop it.

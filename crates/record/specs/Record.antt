@@ -2,7 +2,7 @@
 -- document 02, Req 01 (repairs by task).
 -- r stands for the record.
 -- Definitions alone; what holds of them is in `RecordLaws`.
-use Prim.Native.Nat.{ℕ, _+_, _%_, _^_, min}
+use Prim.Native.Nat.{ℕ, zero, suc, _+_, _%_, _^_, min}
 use mathlib.Core.Bool.{Bool, true, false, _&&_, cond}
 use mathlib.Core.List.{List}
 use lib.Count.{ones}
@@ -45,6 +45,11 @@ fresh = record { lines = 0; enable = false; «catch_words» = replicate chips 0;
 unfoldable pub booted : ℕ → List ℕ → Rank
 booted n cws = record { lines = n; enable = true; «catch_words» = cws; registers = cws; repairs = replicate taskLimit 0 }
 
+-- the record of an accepted call, put together from N, the catch-words and the totals: Enable is set (refusal 12) and each register equals its
+-- catch-word (14). Not of document 01
+unfoldable pub accepted : ℕ → List ℕ → List ℕ → Rank
+accepted n cws totals = record { lines = n; enable = true; «catch_words» = cws; registers = cws; repairs = totals }
+
 -- a catch-word or register grows by the step, the carry out of 64 bits dropped
 unfoldable pub grown : ℕ → ℕ
 grown w = (w + catchWordStep) % 2 ^ 64
@@ -69,6 +74,15 @@ settledBy task Answered v r =
       repairs = counted task (ones (v .flagged)) (r .repairs);
     }
 settledBy task (Refused number) v r = r
+
+-- the same of nine catch-words or registers and of the totals alone, by the number of the outcome: 0 for an answer
+unfoldable pub movedBy : ℕ → ℕ → List ℕ → List ℕ
+movedBy zero collisions ws = moved collisions ws
+movedBy (suc n) collisions ws = ws
+
+unfoldable pub countedBy : ℕ → ℕ → ℕ → List ℕ → List ℕ
+countedBy zero task flagged totals = counted task (ones flagged) totals
+countedBy (suc n) task flagged totals = totals
 
 -- the record after a visit for a task that reports v
 unfoldable pub settled : ℕ → Report → Rank → Rank

@@ -1,21 +1,25 @@
 -- The record after a visit.
 -- Assumes nothing.
-use mathlib.Core.Path.{_≡_, refl, sym, ap, _∙_}
-use mathlib.Core.Logic.{_≢_}
-use mathlib.Core.Bool.{Bool, false, cond}
+use mathlib.Core.Path.{_≡_, refl, sym, ap, _∙_, subst}
+use mathlib.Core.Logic.{_≢_, ⊎-elim}
+use mathlib.Core.Bool.{Bool, true, false, cond}
 use mathlib.Core.List.{List, [], _∷_}
 use Prim.Native.Nat.{ℕ, zero, suc, _+_, _<_, _≤_, min, zero-le}
 use native.Mathlib.Omega.{arith}
-use lib.Count.{ones, onesIn}
+use lib.Count.{ones}
+use lib.Dec.{eqb, ltb}
 use lib.ListN.{length, getD, set, length-set}
 use lib.Seq.{set-getD, getD-set-same, getD-set-other}
-use Rattle.cells.specs.Chips.{inMask}
-use Rattle.cells.specs.ChipLaws.{in-mask, mask-zero, ofChips-ext, ofChips-list, length-ofChips}
+use borrow.Author.Tests.{ltb-true, ltb-false, eqb-true, eqb-false, lt-ltb, le-ltb}
+use Rattle.cells.specs.MaskLaws.{no-ones, no-member}
+use Rattle.cells.specs.ChipLaws.{ofChips-ext, ofChips-list, length-ofChips}
+use Rattle.line.specs.Visit.{refusalOf}
+use Rattle.line.specs.VisitLaws.{Ends}
 use Rattle.line.specs.declared.Report.{Report}
 use Rattle.line.specs.declared.Outcome.{Outcome}
 use Rattle.line.specs.declared.Outcome.the-variants.{Answered, Refused}
 use Rattle.record.specs.declared.Rank.{Rank}
-use Rattle.record.specs.Record.{totalLimit, grown, moved, counted, settledBy, settled}
+use Rattle.record.specs.Record.{totalLimit, accepted, grown, moved, movedBy, counted, countedBy, settledBy, settled}
 
 -- ---- the totals
 
@@ -41,79 +45,176 @@ counted-none task totals few =
     let e : min (getD totals task 0 + 0) totalLimit ≡ getD totals task 0 = omega (arith, few) in
     ap (set totals task) e ∙ set-getD totals task 0
 
+-- the totals once a loop over them has passed those below i
+abbrev pub countedBelow : ℕ → ℕ → List ℕ → ℕ → List ℕ
+countedBelow task n totals i = cond (ltb task i) (counted task n totals) totals
+
+-- at the start it has passed none
+pub counted-start : (task n : ℕ) (totals : List ℕ) → totals ≡ countedBelow task n totals 0
+counted-start task n totals = ap (λ (b : Bool). cond b (counted task n totals) totals) (sym (le-ltb task 0 zero-le))
+
+-- the next total grows by n if it is the task's, else by none
+module _ (task n : ℕ) (totals : List ℕ) (i : ℕ) where
+  own-passed : task ≡ i → set (countedBelow task n totals i) i (min (getD totals i 0 + n) totalLimit) ≡ countedBelow task n totals (i + 1)
+  unfolding counted
+  own-passed e =
+      let before : ltb task i ≡ false = le-ltb task i (omega arith) in
+      let after : ltb task (i + 1) ≡ true = lt-ltb task (i + 1) (omega arith) in
+      ap (λ (b : Bool). set (cond b (counted task n totals) totals) i (min (getD totals i 0 + n) totalLimit)) before
+      ∙ ap (λ (j : ℕ). counted j n totals) (sym e)
+      ∙ ap (λ (b : Bool). cond b (counted task n totals) totals) (sym after)
+
+  other-passed : task ≢ i → set (countedBelow task n totals i) i (getD totals i 0) ≡ countedBelow task n totals (i + 1)
+  other-passed ne = pick (ltb task i) refl
+    where
+      pick : (b : Bool) → ltb task i ≡ b → set (cond b (counted task n totals) totals) i (getD totals i 0) ≡ countedBelow task n totals (i + 1)
+      pick true e =
+          let below : task < i = ltb-true task i e in
+          let after : ltb task (i + 1) ≡ true = lt-ltb task (i + 1) (omega arith) in
+          ap (set (counted task n totals) i) (sym (counted-other task i n totals ne))
+          ∙ set-getD (counted task n totals) i 0
+          ∙ ap (λ (b : Bool). cond b (counted task n totals) totals) (sym after)
+      pick false e =
+          let above : i ≤ task = ltb-false task i e in
+          let after : ltb task (i + 1) ≡ false = le-ltb task (i + 1) (omega (arith, ne)) in
+          set-getD totals i 0 ∙ ap (λ (b : Bool). cond b (counted task n totals) totals) (sym after)
+
+  pub counted-next : {v : ℕ} → getD totals i 0 ≤ totalLimit → v ≡ min (getD totals i 0 + cond (eqb task i) n 0) totalLimit
+      → set (countedBelow task n totals i) i v ≡ countedBelow task n totals (i + 1)
+  counted-next {v} few e = ap (set (countedBelow task n totals i) i) e ∙ pick (eqb task i) refl
+    where
+      pick : (b : Bool) → eqb task i ≡ b
+          → set (countedBelow task n totals i) i (min (getD totals i 0 + cond b n 0) totalLimit) ≡ countedBelow task n totals (i + 1)
+      pick true e = own-passed (eqb-true task i e)
+      pick false e =
+          let none : min (getD totals i 0 + 0) totalLimit ≡ getD totals i 0 = omega (arith, few) in
+          ap (set (countedBelow task n totals i) i) none ∙ other-passed (eqb-false task i e)
+
+-- and once it has passed them all, the task's among them
+pub counted-all : (task n : ℕ) (totals : List ℕ) (i : ℕ) → task < i → countedBelow task n totals i ≡ counted task n totals
+counted-all task n totals i l = ap (λ (b : Bool). cond b (counted task n totals) totals) (lt-ltb task i l)
+
 -- a total that was set within its limit
 set-within : (xs : List ℕ) (i y : ℕ) → y ≤ totalLimit → getD (set xs i y) i 0 ≤ totalLimit
 set-within [] i y h = zero-le
 set-within (x ∷ xs) zero y h = h
 set-within (x ∷ xs) (suc i) y h = set-within xs i y h
 
--- ---- a visit, by its outcome
+-- ---- a visit by the number of its outcome, part by part
 
-pub settled-refused : (task : ℕ) (v : Report) (r : Rank) (n : ℕ) → v .outcome ≡ Refused n → settled task v r ≡ r
-unfolding settled settledBy
-settled-refused task v r n e = ap (λ (o : Outcome). settledBy task o v r) e
+pub moved-refused : (n c : ℕ) (ws : List ℕ) → n ≢ 0 → movedBy n c ws ≡ ws
+unfolding movedBy
+moved-refused zero c ws h = absurd (h refl)
+moved-refused (suc n) c ws h = refl
 
-pub settled-answered : (task : ℕ) (v : Report) (r : Rank) → v .outcome ≡ Answered → settled task v r ≡ settledBy task Answered v r
-unfolding settled
-settled-answered task v r e = ap (λ (o : Outcome). settledBy task o v r) e
+pub moved-answered : (n c : ℕ) (ws : List ℕ) → n ≡ 0 → movedBy n c ws ≡ moved c ws
+unfolding movedBy
+moved-answered n c ws e = ap (λ (k : ℕ). movedBy k c ws) e
 
--- no chip is in the mask of none
-not-in-none : (k : ℕ) → k < 9 → inMask 0 k ≡ false
-not-in-none k l = ap (λ (m : ℕ). inMask m k) (sym (mask-zero (λ _. false) 9 (λ _ _. refl))) ∙ in-mask (λ _. false) 9 k l
+pub counted-refused : (n task f : ℕ) (totals : List ℕ) → n ≢ 0 → countedBy n task f totals ≡ totals
+unfolding countedBy
+counted-refused zero task f totals h = absurd (h refl)
+counted-refused (suc n) task f totals h = refl
+
+pub counted-answered : (n task f : ℕ) (totals : List ℕ) → n ≡ 0 → countedBy n task f totals ≡ counted task (ones f) totals
+unfolding countedBy
+counted-answered n task f totals e = ap (λ (k : ℕ). countedBy k task f totals) e
 
 -- without collisions no word moves
 moved-none : (ws : List ℕ) → length ws ≡ 9 → moved 0 ws ≡ ws
 unfolding moved
 moved-none ws size =
-    ofChips-ext _ (λ k. getD ws k 0) 9 (λ k l. ap (λ (t : Bool). cond t (grown (getD ws k 0)) (getD ws k 0)) (not-in-none k l))
+    ofChips-ext _ (λ k. getD ws k 0) 9 (λ k l. ap (λ (t : Bool). cond t (grown (getD ws k 0)) (getD ws k 0)) (no-member k l))
     ∙ ofChips-list ws 9 size
 
-pub no-ones : ones 0 ≡ 0
-unfolding ones onesIn
-no-ones = refl
+pub unmoved : (n : ℕ) (ws : List ℕ) → length ws ≡ 9 → movedBy n 0 ws ≡ ws
+unfolding movedBy
+unmoved zero ws size = moved-none ws size
+unmoved (suc n) ws size = refl
 
--- an answered visit without collisions changes nothing but the task's total
-pub settled-unmoved : (task : ℕ) (v : Report) (r : Rank) → v .outcome ≡ Answered → v .collisions ≡ 0
-    → length (r .«catch_words») ≡ 9 → length (r .registers) ≡ 9 → settled task v r
+-- without flagged chips no total grows
+pub uncounted : (n task : ℕ) (totals : List ℕ) → getD totals task 0 ≤ totalLimit → countedBy n task 0 totals ≡ totals
+unfolding countedBy
+uncounted zero task totals few = ap (λ (k : ℕ). counted task k totals) no-ones ∙ counted-none task totals few
+uncounted (suc n) task totals few = refl
+
+-- registers that equal the catch-words, set to them where chips collide
+pub registers-set : (n c : ℕ) (regs cws : List ℕ) → regs ≡ cws → length regs ≡ 9 → cond (eqb c 0) regs (movedBy n c cws) ≡ movedBy n c regs
+registers-set n c regs cws e size = by (eqb c 0) refl
+  where
+    by : (t : Bool) → eqb c 0 ≡ t → cond t regs (movedBy n c cws) ≡ movedBy n c regs
+    by true t = sym (ap (λ (k : ℕ). movedBy n k regs) (eqb-true c 0 t) ∙ unmoved n regs size)
+    by false t = ap (movedBy n c) (sym e)
+
+-- the record after a visit, put together
+pub settled-parts : (task : ℕ) (v : Report) (r : Rank) → Ends (v .outcome) → settled task v r
     ≡ record {
       lines = r .lines;
       enable = r .enable;
-      «catch_words» = r .«catch_words»;
-      registers = r .registers;
-      repairs = counted task (ones (v .flagged)) (r .repairs);
+      «catch_words» = movedBy (refusalOf (v .outcome)) (v .collisions) (r .«catch_words»);
+      registers = movedBy (refusalOf (v .outcome)) (v .collisions) (r .registers);
+      repairs = countedBy (refusalOf (v .outcome)) task (v .flagged) (r .repairs);
     }
-unfolding settledBy
-settled-unmoved task v r e none words registers =
-    let c : moved (v .collisions) (r .«catch_words») ≡ r .«catch_words» =
-    ap (λ (x : ℕ). moved x (r .«catch_words»)) none ∙ moved-none (r .«catch_words») words in
-    let g : moved (v .collisions) (r .registers) ≡ r .registers = ap (λ (x : ℕ). moved x (r .registers)) none ∙ moved-none
-    (r .registers) registers in
-    settled-answered task v r e
+unfolding settled settledBy refusalOf movedBy countedBy
+settled-parts task v r = ⊎-elim (at Answered refl) (⊎-elim (at (Refused 20) refl) (at (Refused 21) refl))
+  where
+    Parts : Outcome → Type 0
+    Parts o =
+        settledBy task o v r
+        ≡ record {
+          lines = r .lines;
+          enable = r .enable;
+          «catch_words» = movedBy (refusalOf o) (v .collisions) (r .«catch_words»);
+          registers = movedBy (refusalOf o) (v .collisions) (r .registers);
+          repairs = countedBy (refusalOf o) task (v .flagged) (r .repairs);
+        }
+
+    at : (o : Outcome) → Parts o → v .outcome ≡ o → Parts (v .outcome)
+    at o p e = subst Parts (sym e) p
+
+-- a visit that reports no chip leaves the record as it was
+pub settled-none : (task : ℕ) (v : Report) (r : Rank) → Ends (v .outcome) → v .flagged ≡ 0 → v .collisions ≡ 0 → length (r .«catch_words») ≡ 9
+    → length (r .registers) ≡ 9 → getD (r .repairs) task 0 ≤ totalLimit → settled task v r ≡ r
+settled-none task v r ends flagged collisions words registers few =
+    let n : ℕ = refusalOf (v .outcome) in
+    let same : (ws : List ℕ) → length ws ≡ 9 → movedBy n (v .collisions) ws ≡ ws =
+    λ ws size. ap (λ (c : ℕ). movedBy n c ws) collisions ∙ unmoved n ws size in
+    let totals : countedBy n task (v .flagged) (r .repairs) ≡ r .repairs =
+    ap (λ (f : ℕ). countedBy n task f (r .repairs)) flagged ∙ uncounted n task (r .repairs) few in
+    settled-parts task v r ends
     ∙ (λ i. record {
       lines = r .lines;
       enable = r .enable;
-      «catch_words» = c i;
-      registers = g i;
-      repairs = counted task (ones (v .flagged)) (r .repairs);
+      «catch_words» = same (r .«catch_words») words i;
+      registers = same (r .registers) registers i;
+      repairs = totals i;
     })
 
--- an answered visit that reports no chip leaves the record as it was
-pub settled-none : (task : ℕ) (v : Report) (r : Rank) → v .outcome ≡ Answered → v .flagged ≡ 0 → v .collisions ≡ 0
-    → length (r .«catch_words») ≡ 9 → length (r .registers) ≡ 9 → getD (r .repairs) task 0 ≤ totalLimit → settled task v r ≡ r
-settled-none task v r answered flagged collisions words registers few =
-    let f : ones (v .flagged) ≡ 0 = ap ones flagged ∙ no-ones in
-    let t : counted task (ones (v .flagged)) (r .repairs) ≡ r .repairs =
-    ap (λ (n : ℕ). counted task n (r .repairs)) f ∙ counted-none task (r .repairs) few in
-    settled-unmoved task v r answered collisions words registers
-    ∙ (λ i. record {
-      lines = r .lines;
-      enable = r .enable;
-      «catch_words» = r .«catch_words»;
-      registers = r .registers;
-      repairs = t i;
-    })
+-- ---- the record of an accepted call
 
--- a visit leaves nine catch-words
+-- Enable is set and the registers equal the catch-words
+module _ (r : Rank) (enabled : r .enable ≡ true) (equal : r .registers ≡ r .«catch_words») where
+  -- the record is the one made of its N, catch-words and totals
+  pub accepted-same : accepted (r .lines) (r .«catch_words») (r .repairs) ≡ r
+  unfolding accepted
+  accepted-same = λ i. record {
+    lines = r .lines;
+    enable = sym enabled i;
+    «catch_words» = r .«catch_words»;
+    registers = sym equal i;
+    repairs = r .repairs;
+  }
+
+-- after a visit it is put together from the catch-words and the totals after it
+pub accepted-settled : (task : ℕ) (v : Report) (n : ℕ) (cws totals : List ℕ) → Ends (v .outcome)
+    → accepted n (movedBy (refusalOf (v .outcome)) (v .collisions) cws) (countedBy (refusalOf (v .outcome)) task (v .flagged) totals)
+    ≡ settled task v (accepted n cws totals)
+unfolding accepted
+accepted-settled task v n cws totals ends = sym (settled-parts task v (accepted n cws totals) ends)
+
+-- ---- lengths and limits after a visit
+
+-- there are nine catch-words
 pub length-settled : (task : ℕ) (v : Report) (r : Rank) → length (r .«catch_words») ≡ 9 → length (settled task v r .«catch_words») ≡ 9
 unfolding settled settledBy moved
 length-settled task v r nine = by (v .outcome)
@@ -122,16 +223,7 @@ length-settled task v r nine = by (v .outcome)
     by Answered = length-ofChips _ 9
     by (Refused n) = nine
 
--- and nine registers
-pub length-settled-registers : (task : ℕ) (v : Report) (r : Rank) → length (r .registers) ≡ 9 → length (settled task v r .registers) ≡ 9
-unfolding settled settledBy moved
-length-settled-registers task v r nine = by (v .outcome)
-  where
-    by : (o : Outcome) → length (settledBy task o v r .registers) ≡ 9
-    by Answered = length-ofChips _ 9
-    by (Refused n) = nine
-
--- and the task's total within its limit
+-- the task's total is within its limit
 pub total-settled : (task : ℕ) (v : Report) (r : Rank) → getD (r .repairs) task 0 ≤ totalLimit
     → getD (settled task v r .repairs) task 0 ≤ totalLimit
 unfolding settled settledBy counted

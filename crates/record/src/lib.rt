@@ -2,14 +2,12 @@
 ghost use mathlib.Core.Path.{_≡_};
 ghost use mathlib.Core.Bool.{cond};
 ghost use Prim.Native.Nat.{_+_, _/_, _≤_, _<_, min};
-ghost use lib.ListN.{length};
+ghost use lib.Dec.{eqb};
+ghost use lib.ListN.{length, getD};
 ghost use Rattle.cells.specs.Cells.{chips, lineBytes};
-ghost use Rattle.line.specs.declared.Outcome.the-variants.{Answered};
-ghost use Rattle.record.specs.Record.{lineLimit, taskLimit, totalLimit, booted, grown, moved, counted, settled, renewed, fresh, isLineCount, isTask};
+ghost use Rattle.record.specs.Record.{lineLimit, taskLimit, totalLimit, booted, accepted, grown, moved, movedBy, counted, countedBy, renewed, fresh, isLineCount, isTask};
 use cells::CHIPS;
 use cells::LINE_BYTES;
-use line::Outcome;
-use line::Report;
 
 // The record, held by value: N, the Enable bit, the catch-words as the controller knows them, the registers as the chips hold them, and a
 // repair total for each task.
@@ -105,44 +103,76 @@ pub fn renewed(rank: Rank, chip: u32, catch_word: u64) -> Rank
     after
 }
 
-// Step 6 of a visit for a task, for the record: only an answered line moves it.
-pub fn settle(rank: Rank, task: u32, report: Report) -> Rank
-    requires { ⌜ task < taskLimit ⌝ }
-    ensures { λ r. ⌜ r ≡ settled task report rank ⌝ }
+// The record of an accepted call, put together from N, the catch-words and the totals: Enable is set (12) and the registers equal the
+// catch-words (14).
+pub fn accepted(lines: u32, catch_words: [u64; CHIPS], totals: [u32; 8]) -> Rank
+    ensures { λ r. ⌜ r ≡ accepted lines «catch_words» totals ⌝ }
 {
-    let outcome = report.outcome;
-    let Outcome::Answered = outcome else {
-        return rank;
-    };
-    let collisions = report.collisions;
-    if collisions == 0 {
-        return repaired(rank, task, report);
+    Rank {
+        lines,
+        enable: true,
+        catch_words,
+        registers: catch_words,
+        repairs: totals,
     }
+}
+
+// The record as it came, put together from its fields: the compiler then makes one copy less of it.
+pub fn kept(rank: Rank) -> Rank
+    ensures { λ r. ⌜ r ≡ rank ⌝ }
+{
     let catch_words = rank.catch_words;
     let registers = rank.registers;
     let totals = rank.repairs;
     Rank {
         lines: rank.lines,
         enable: rank.enable,
-        catch_words: moved(catch_words, report.collisions),
-        registers: moved(registers, report.collisions),
-        repairs: counted(totals, task, u32::count_ones(report.flagged)),
+        catch_words,
+        registers,
+        repairs: totals,
     }
 }
 
-// Step 6 where an answered visit met no collision: the task's total is all that can grow.
-fn repaired(rank: Rank, task: u32, report: Report) -> Rank
-    requires { ⌜ (task < taskLimit) × (report .outcome ≡ Answered) × (report .collisions ≡ 0) ⌝ }
-    ensures { λ r. ⌜ r ≡ settled task report rank ⌝ }
+// Step 6 on the catch-words, in their place, by the number of the visit's outcome: an answer moves those of the colliding chips.
+pub fn move_words(words: &mut [u64; CHIPS], refusal: u32, collisions: u32)
+    requires { ⌜ length (now words) ≡ chips ⌝ }
+    ensures { λ _. ⌜ now (words .exit) ≡ movedBy refusal collisions (now (words .entry)) ⌝ }
 {
-    let totals = rank.repairs;
-    let mut after = rank;
-    let repairs = counted(totals, task, u32::count_ones(report.flagged));
-    after.repairs = repairs;
-    after
+    if refusal != 0 {
+        return;
+    }
+    if collisions == 0 {
+        return;
+    }
+    let before = *words;
+    *words = moved(before, collisions);
 }
 
-// Nine catch-words or registers, those of the colliding chips moved.
+// Step 6 on the registers, in their place: where chips collide they are set to the catch-words after the visit, which they equalled before.
+pub fn set_registers(registers: &mut [u64; CHIPS], catch_words: [u64; CHIPS], collisions: u32)
+    ensures { λ _. ⌜ now (registers .exit) ≡ cond (eqb collisions 0) (now (registers .entry)) «catch_words» ⌝ }
+{
+    if collisions != 0 {
+        *registers = catch_words;
+    }
+}
+
+// Step 6 on the eight totals, in their place, by the number of the visit's outcome: an answer counts the flagged chips for the task.
+pub fn count(totals: &mut [u32; 8], task: u32, refusal: u32, flagged: u32)
+    requires { ⌜ (task < taskLimit) × (getD (now totals) task 0 ≤ totalLimit) ⌝ }
+    ensures { λ _. ⌜ now (totals .exit) ≡ countedBy refusal task flagged (now (totals .entry)) ⌝ }
+{
+    if refusal != 0 {
+        return;
+    }
+    if flagged == 0 {
+        return;
+    }
+    let before = *totals;
+    *totals = counted(before, task, u32::count_ones(flagged));
+}
+
+// Nine catch-words, those of the colliding chips moved.
 fn moved(words: [u64; CHIPS], collisions: u32) -> [u64; CHIPS]
     ensures { λ r. ⌜ r ≡ moved collisions words ⌝ }
 {
@@ -165,15 +195,24 @@ fn grown_if(test: bool, word: u64) -> u64
     }
 }
 
-// Eight repair totals, one task's after some repairs.
+// Eight repair totals, one task's after some repairs. Each is written by a selection: a store at an index that is known only at run time
+// would be waited for by the loads of the record after it.
 fn counted(totals: [u32; 8], task: u32, repairs: u32) -> [u32; 8]
     requires { ⌜ task < taskLimit ⌝ }
     ensures { λ r. ⌜ r ≡ counted task repairs totals ⌝ }
 {
-    let t = task as usize;
     let mut after = totals;
-    after[t] = total_after(totals[t], repairs);
+    for i in 0..8 {
+        after[i as usize] = total_after(totals[i as usize], repairs_if(task == i, repairs));
+    }
     after
+}
+
+// The repairs where a test holds, else none.
+fn repairs_if(test: bool, repairs: u32) -> u32
+    ensures { λ r. ⌜ r ≡ cond test repairs 0 ⌝ }
+{
+    if test { repairs } else { 0 }
 }
 
 // A repair total after some repairs. It stays at its limit once there.

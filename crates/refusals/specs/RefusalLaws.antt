@@ -8,9 +8,12 @@ use Prim.Native.Nat.{ℕ, zero, suc, _*_, _/_, _%_, _≤_, _<_}
 use native.Mathlib.Nat.{suc-ne-zero}
 use native.Mathlib.Omega.{arith}
 use lib.Dec.{eqb, ltb, leb}
-use lib.ListN.{length}
+use lib.ListN.{length, getD}
+use lib.Seq.{ext-getD}
 use borrow.Author.Tests.{ltb-true, ltb-false, leb-true, leb-false, eqb-true, eqb-false, not-false, lt-ltb, le-ltb, eq-eqb, ne-eqb}
 use Rattle.code.specs.TestLaws.{and-second}
+use Rattle.cells.specs.Chips.{count}
+use Rattle.cells.specs.ChipLaws.{count-none}
 use Rattle.record.specs.declared.Rank.{Rank}
 use Rattle.refusals.specs.Refusals.{lineOut, bufferOut, chipOut, patternOut, catchWordsOut, memoryOut, notReady, memoryDiffers, registerDiffers, taskOut, refusedIf, firstOf, stateRefusals, lineRefusals, visitRefusals, bootRefusal, writeRefusal, readRefusal, patrolRefusal, renewRefusal, faultRefusal}
 
@@ -94,10 +97,12 @@ memory-lines m h e = ap₂ (λ (s t : Bool). s || (t || ltb 65536 (length m / 81
 
 -- ---- what an accepted call is given
 
--- the memory has the record's lines
-pub record Sized (r : Rank) (m : List ℕ) : Type 0 where
+-- by 12 and 13 Enable is set and the memory has the record's lines; by 14 nine registers equal nine catch-words
+pub record Tested (r : Rank) (m : List ℕ) : Type 0 where
+  pub enabled : r .enable ≡ true
   pub few : r .lines ≤ 65536
   pub size : length m ≡ 81 * r .lines
+  pub equal : length (r .registers) ≡ 9 → length (r .«catch_words») ≡ 9 → r .registers ≡ r .«catch_words»
 
 ready-few : (r : Rank) → notReady r ≡ false → r .lines ≤ 65536
 unfolding notReady
@@ -106,16 +111,38 @@ ready-few r e =
     not-false (leb 1 (r .lines) && leb (r .lines) 65536) (or-second (not (r .enable)) (not (leb 1 (r .lines) && leb (r .lines) 65536)) e) in
     leb-true (r .lines) 65536 (and-second (leb 1 (r .lines)) (leb (r .lines) 65536) within)
 
+ready-enabled : (r : Rank) → notReady r ≡ false → r .enable ≡ true
+unfolding notReady
+ready-enabled r e = not-false (r .enable) (or-first (not (r .enable)) (not (leb 1 (r .lines) && leb (r .lines) 65536)) e)
+
+none-differs : (r : Rank) → registerDiffers r ≡ false → length (r .registers) ≡ 9 → length (r .«catch_words») ≡ 9
+    → r .registers ≡ r .«catch_words»
+unfolding registerDiffers
+none-differs r e registers words =
+    let none : count other 9 ≡ 0 = omega (arith, ltb-false 0 (count other 9) e) in
+    ext-getD 0 (r .registers) (r .«catch_words») (registers ∙ sym words)
+    (λ k l. is-equal (getD (r .registers) k 0) (getD (r .«catch_words») k 0) (count-none other 9 none k (omega (arith, registers))))
+  where
+    other : ℕ → Bool
+    other k = not (eqb (getD (r .registers) k 0) (getD (r .«catch_words») k 0))
+
 module _ (r : Rank) (m : List ℕ) where
-  state-passed : (ns : List ℕ) → firstOf (stateRefusals r m ++ ns) ≡ 0 → Sized r m × (firstOf ns ≡ 0)
+  state-passed : (ns : List ℕ) → firstOf (stateRefusals r m ++ ns) ≡ 0 → Tested r m × (firstOf ns ≡ 0)
   unfolding memoryDiffers
   state-passed ns e =
       let a = none-held (notReady r) 11 (refusedIf (memoryDiffers r m) 13 ∷ refusedIf (registerDiffers r) 14 ∷ ns) e in
       let b = none-held (memoryDiffers r m) 12 (refusedIf (registerDiffers r) 14 ∷ ns) (a .1) in
       let d = none-held (registerDiffers r) 13 ns (b .1) in
-      (record { few = ready-few r (a .0); size = is-equal (length m) (81 * r .lines) (b .0) }, d .1)
+      let tested : Tested r m =
+      record {
+        enabled = ready-enabled r (a .0);
+        few = ready-few r (a .0);
+        size = is-equal (length m) (81 * r .lines) (b .0);
+        equal = none-differs r (d .0);
+      } in
+      (tested, d .1)
 
-  line-passed : (l : ℕ) (ns : List ℕ) → firstOf (lineRefusals r m l ++ ns) ≡ 0 → Sized r m × (l < r .lines) × (firstOf ns ≡ 0)
+  line-passed : (l : ℕ) (ns : List ℕ) → firstOf (lineRefusals r m l ++ ns) ≡ 0 → Tested r m × (l < r .lines) × (firstOf ns ≡ 0)
   unfolding lineOut
   line-passed l ns e =
       let s = state-passed (refusedIf (lineOut r l) 1 ∷ ns) e in
@@ -123,7 +150,7 @@ module _ (r : Rank) (m : List ℕ) where
       (s .0, is-below l (r .lines) (x .0), x .1)
 
   visit-passed : (task l : ℕ) (ns : List ℕ) → firstOf (visitRefusals r m task l ++ ns) ≡ 0
-      → Sized r m × (task < 8) × (l < r .lines) × (firstOf ns ≡ 0)
+      → Tested r m × (task < 8) × (l < r .lines) × (firstOf ns ≡ 0)
   unfolding taskOut lineOut
   visit-passed task l ns e =
       let s = state-passed (refusedIf (taskOut task) 31 ∷ refusedIf (lineOut r l) 1 ∷ ns) e in
@@ -135,26 +162,26 @@ module _ (r : Rank) (m : List ℕ) where
   unfolding bufferOut
   buffer-is b e = is-equal (length b) 64 (none-held (bufferOut b) 1 [] e .0)
 
-  pub write-passed : (l : ℕ) (b : List ℕ) → writeRefusal r m l b ≡ 0 → Sized r m × (l < r .lines) × (length b ≡ 64)
+  pub write-passed : (l : ℕ) (b : List ℕ) → writeRefusal r m l b ≡ 0 → Tested r m × (l < r .lines) × (length b ≡ 64)
   unfolding writeRefusal
   write-passed l b e =
       let s = line-passed l (refusedIf (bufferOut b) 2 ∷ []) e in
       (s .0, s .1, buffer-is b (s .2))
 
   pub read-passed : (task l : ℕ) (b : List ℕ) → readRefusal r m task l b ≡ 0
-      → Sized r m × (task < 8) × (l < r .lines) × (length b ≡ 64)
+      → Tested r m × (task < 8) × (l < r .lines) × (length b ≡ 64)
   unfolding readRefusal
   read-passed task l b e =
       let s = visit-passed task l (refusedIf (bufferOut b) 2 ∷ []) e in
       (s .0, s .1, s .2, buffer-is b (s .3))
 
-  pub patrol-passed : (task l : ℕ) → patrolRefusal r m task l ≡ 0 → Sized r m × (task < 8) × (l < r .lines)
+  pub patrol-passed : (task l : ℕ) → patrolRefusal r m task l ≡ 0 → Tested r m × (task < 8) × (l < r .lines)
   unfolding patrolRefusal
   patrol-passed task l e =
       let s = visit-passed task l [] e in
       (s .0, s .1, s .2)
 
-  pub fault-passed : (l k : ℕ) (p : List ℕ) → faultRefusal r m l k p ≡ 0 → Sized r m × (l < r .lines) × (k < 9) × (length p ≡ 9)
+  pub fault-passed : (l k : ℕ) (p : List ℕ) → faultRefusal r m l k p ≡ 0 → Tested r m × (l < r .lines) × (k < 9) × (length p ≡ 9)
   unfolding faultRefusal chipOut patternOut
   fault-passed l k p e =
       let s = line-passed l (refusedIf (chipOut k) 3 ∷ refusedIf (patternOut p) 4 ∷ []) e in

@@ -72,6 +72,7 @@ fn row_holds(i: u64) -> bool {
     code::check_byte(row.word) == row.check_byte
         && code::syndrome(row.word, row.given) == row.syndrome
         && code::position(row.syndrome) == row.position
+        && row.mended_check == row.given ^ check_bit(row.position)
         && mends_to(row.word, row.given, row.mended_word, row.position)
 }
 
@@ -81,11 +82,10 @@ fn digits_crc() -> u8 {
     code::check_byte(s as u64)
 }
 
-// Whether the check byte, the syndrome and the codeword test are those of the bitwise CRC-8.
+// Whether the check byte and the syndrome are those of the bitwise CRC-8.
 fn agrees(word: u64, check: u8) -> bool {
     code::check_byte(word) == remainder(word, 0)
         && code::syndrome(word, check) == remainder(word, check)
-        && code::is_codeword(word, check) == (remainder(word, check) == 0)
 }
 
 // Whether the check byte of word i of the sequence, made with those of the seven others of its eight, is that of the bitwise CRC-8. Those of
@@ -161,13 +161,18 @@ fn check_bit(position: u8) -> u8 {
     if position < 8 { 1 << position } else { 0 }
 }
 
-// Whether nine bytes are mended to a word and have the status that their bitwise CRC-8 and the position of the bit to invert ask for.
+// Whether nine bytes are mended to a word, and to the check byte and the status that their bitwise CRC-8 and the position of the bit to invert
+// ask for.
 fn mends_to(word: u64, check: u8, mended: u64, position: u8) -> bool {
-    let mending = code::mend(word, check);
+    let syndrome = code::syndrome(word, check);
+    let mending = code::mend(word, check, syndrome);
     let status = mending.status;
     let sound = remainder(word, check) == 0;
     let beyond = !sound && 71 < position;
-    mending.word == mended && is_due(status, sound, beyond) && code::is_beyond(status) == beyond
+    mending.word == mended
+        && mending.check == check ^ check_bit(position)
+        && is_due(status, sound, beyond)
+        && code::is_beyond(status) == beyond
 }
 
 fn is_due(status: Status, sound: bool, beyond: bool) -> bool {

@@ -1,6 +1,5 @@
 pub mod Runs
 pub mod Visits
-pub mod Sweep
 pub mod VisitLaws
 pub mod ReadLaws
 pub mod SweepLaws

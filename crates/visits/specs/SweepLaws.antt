@@ -1,35 +1,31 @@
 -- The visits of a patrol, turn by turn.
 -- Assumes nothing.
 use mathlib.Core.Path.{_≡_, refl, sym, ap, ap₂, _∙_, subst}
-use mathlib.Core.Logic.{_≢_, ⊎-elim}
-use mathlib.Core.Bool.{Bool, true, cond}
+use mathlib.Core.Bool.{Bool, true}
 use mathlib.Core.List.{List, [], _∷_}
 use Prim.Native.Nat.{ℕ, zero, suc, _+_, _-_, _*_, _≤_, _<_, zero-le}
 use native.Mathlib.Nat.{add-zero, sub-zero, zero-add}
 use native.Mathlib.Omega.{arith}
 use lib.Count.{ones}
-use lib.Dec.{eqb}
 use lib.ListN.{length, getD}
-use borrow.Author.Tests.{eq-eqb, ne-eqb}
 use Rattle.cells.specs.Chips.{count, mask}
 use Rattle.cells.specs.ChipLaws.{bit-lt, ones-mask}
+use Rattle.cells.specs.MaskLaws.{no-ones}
 use Rattle.passes.specs.Passes.{isFlagged}
 use Rattle.passes.specs.Scan.{isClean}
 use Rattle.line.specs.Visit.{outcomeOf, bytesAfter, reportOf, refusalOf}
-use Rattle.line.specs.VisitLaws.{Ends, outcome-ends}
+use Rattle.line.specs.VisitLaws.{outcome-ends}
 use Rattle.line.specs.declared.Report.{Report}
 use Rattle.line.specs.declared.Outcome.{Outcome}
 use Rattle.line.specs.declared.Outcome.the-variants.{Answered, Refused}
 use Rattle.record.specs.declared.Rank.{Rank}
-use Rattle.record.specs.Record.{totalLimit, settled}
-use Rattle.record.specs.RecordLaws.{no-ones, length-settled, length-settled-registers, total-settled}
-use Rattle.memory.specs.Lines.{lineAt}
+use Rattle.record.specs.Record.{totalLimit, accepted, countedBy, settled}
+use Rattle.record.specs.RecordLaws.{accepted-settled, length-settled, total-settled}
+use Rattle.memory.specs.Lines.{lineAt, withLine}
 use Rattle.memory.specs.LineLaws.{length-withLine}
-use Rattle.visits.specs.declared.ReadResult.{ReadResult}
 use Rattle.visits.specs.declared.sweep.Tally.{Tally}
 use Rattle.visits.specs.Runs.{Did, outs, end, upFrom}
-use Rattle.visits.specs.Visits.{Device, device, visitOf, resultOf, isRefused, rewrittenBy, refusedIn, rewrittenIn}
-use Rattle.visits.specs.Sweep.{tallied}
+use Rattle.visits.specs.Visits.{Device, device, visitOf, wordsAfter, isRefused, rewrittenBy, refusedIn, rewrittenIn}
 use Rattle.visits.specs.VisitLaws.{clean, clean-visit}
 
 -- of n lines from l on, i are done: the next one, and those after it
@@ -68,45 +64,24 @@ unfolding rewrittenBy
 rewritten-most Answered flagged = omega arith
 rewritten-most (Refused n) flagged = zero-le
 
--- ---- a visit, by its number
+-- at most nine chips are flagged
+pub visit-flags : (m cws : List ℕ) {v : Report} → v ≡ reportOf m cws → ones (v .flagged) ≤ 9
+unfolding reportOf
+visit-flags m cws {v} e =
+    let f : ones (v .flagged) ≡ ones (mask (isFlagged m cws) 9) = ap (λ (w : Report). ones (w .flagged)) e in
+    omega (arith, f, flagged-most m cws)
 
--- what is counted by the number is what the outcome says
-abbrev Counts : Outcome → Type 0
-Counts o =
-    (cond (eqb (refusalOf o) 0) 0 1 ≡ isRefused o)
-    × ((f : ℕ) → cond (eqb (refusalOf o) 0) (ones f) 0 ≡ rewrittenBy o f)
+-- ---- a visit
 
-counts : (o : Outcome) → Ends o → Counts o
-unfolding refusalOf isRefused rewrittenBy
-counts o = ⊎-elim (at Answered (refl, λ f. refl)) (⊎-elim (at (Refused 20) (refl, λ f. refl)) (at (Refused 21) (refl, λ f. refl)))
-  where
-    at : (p : Outcome) → Counts p → o ≡ p → Counts o
-    at p c e = subst Counts (sym e) c
-
--- at most nine words are rewritten
-pub visit-flags : (task : ℕ) (d : Device) (l : ℕ) {v : ReadResult} → v ≡ resultOf (visitOf task d l) → ones (v .flagged) ≤ 9
-unfolding resultOf visitOf reportOf
-visit-flags task d l {v} e =
-    let f : ones (v .flagged) ≡ ones (mask (isFlagged (lineAt (d .memory) l) (d .rank .«catch_words»)) 9) =
-    ap (λ (w : ReadResult). ones (w .flagged)) e in
-    omega (arith, f, flagged-most (lineAt (d .memory) l) (d .rank .«catch_words»))
-
--- a visit that is refused, and one that is not, as the loop counts them
-pub tallied-refused : (t : Tally) (v : ReadResult) → v .refusal ≢ 0
-    → record { refused = t .refused + 1; rewritten = t .rewritten; rank = v .rank } ≡ tallied t v
-unfolding tallied
-tallied-refused t v h =
-    (λ i. record { refused = t .refused + 1; rewritten = sym (add-zero (t .rewritten)) i; rank = v .rank })
-    ∙ ap (λ (b : Bool). record { refused = t .refused + cond b 0 1; rewritten = t .rewritten + cond b (ones (v .flagged)) 0; rank = v .rank })
-    (sym (ne-eqb (v .refusal) 0 h))
-
-pub tallied-answered : (t : Tally) (v : ReadResult) → v .refusal ≡ 0
-    → record { refused = t .refused; rewritten = t .rewritten + ones (v .flagged); rank = v .rank } ≡ tallied t v
-unfolding tallied
-tallied-answered t v h =
-    (λ i. record { refused = sym (add-zero (t .refused)) i; rewritten = t .rewritten + ones (v .flagged); rank = v .rank })
-    ∙ ap (λ (b : Bool). record { refused = t .refused + cond b 0 1; rewritten = t .rewritten + cond b (ones (v .flagged)) 0; rank = v .rank })
-    (sym (eq-eqb (v .refusal) 0 h))
+-- the parts of the record that a visit with report v changes, put together again
+pub parts-visited : (task n l : ℕ) (cws totals s : List ℕ) {cws' totals' x : List ℕ} {v : Report} → v ≡ reportOf (lineAt s l) cws
+    → cws' ≡ wordsAfter (reportOf (lineAt s l) cws) cws → totals' ≡ countedBy (refusalOf (v .outcome)) task (v .flagged) totals → x ≡ withLine s l (bytesAfter (lineAt s l) cws)
+    → device (accepted n cws' totals') x ≡ visitOf task (device (accepted n cws totals) s) l .now
+unfolding visitOf accepted wordsAfter reportOf
+parts-visited task n l cws totals s e e₁ e₂ e₃ =
+    ap₂ device
+    (ap₂ (accepted n) e₁ (e₂ ∙ ap (λ (w : Report). countedBy (refusalOf (w .outcome)) task (w .flagged) totals) e)
+    ∙ accepted-settled task (reportOf (lineAt s l) cws) n cws totals (outcome-ends (lineAt s l) cws)) e₃
 
 -- a visit to line l for a task takes the tally t and the memory s to u and x
 pub record Moves (task : ℕ) (t : Tally) (s : List ℕ) (l : ℕ) (u : Tally) (x : List ℕ) : Type 0 where
@@ -114,22 +89,6 @@ pub record Moves (task : ℕ) (t : Tally) (s : List ℕ) (l : ℕ) (u : Tally) (
   pub rewritten : u .rewritten
       ≡ t .rewritten + rewrittenBy (visitOf task (device (t .rank) s) l .out .outcome) (visitOf task (device (t .rank) s) l .out .flagged)
   pub after : device (u .rank) x ≡ visitOf task (device (t .rank) s) l .now
-
--- any visit, as it is counted
-pub moves-visited : {task : ℕ} {t u : Tally} {s x : List ℕ} {l : ℕ} {v : ReadResult}
-    → v ≡ resultOf (visitOf task (device (t .rank) s) l) → x ≡ visitOf task (device (t .rank) s) l .now .memory → u ≡ tallied t v
-    → Moves task t s l u x
-unfolding tallied resultOf visitOf reportOf
-moves-visited {task} {t} {u} {s} {x} {l} {v} e memory tally =
-    let m : List ℕ = lineAt s l in
-    let cws : List ℕ = t .rank .«catch_words» in
-    let c : Counts (outcomeOf m cws) = counts (outcomeOf m cws) (outcome-ends m cws) in
-    let made : u ≡ tallied t (resultOf (visitOf task (device (t .rank) s) l)) = tally ∙ ap (tallied t) e in
-    record {
-      refused = ap (λ (y : Tally). y .refused) made ∙ ap (λ (n : ℕ). t .refused + n) (c .0);
-      rewritten = ap (λ (y : Tally). y .rewritten) made ∙ ap (λ (n : ℕ). t .rewritten + n) (c .1 (mask (isFlagged m cws) 9));
-      after = ap₂ device (ap (λ (y : Tally). y .rank) made) memory;
-    }
 
 -- a visit to a clean line is left out: there is nothing to count
 pub moves-clean : {task : ℕ} {t u : Tally} {s x : List ℕ} {l : ℕ} → length (lineAt s l) ≡ 81
@@ -158,7 +117,6 @@ pub record Swept (task : ℕ) (r : Rank) (m : List ℕ) (l n : ℕ) (t : Tally) 
   pub within : i ≤ n
   pub size : length s ≡ length m
   pub words : length (t .rank .«catch_words») ≡ 9
-  pub registers : length (t .rank .registers) ≡ 9
   pub total : getD (t .rank .repairs) task 0 ≤ totalLimit
   pub few-refused : t .refused ≤ i
   pub few-rewritten : t .rewritten ≤ 9 * i
@@ -168,16 +126,14 @@ pub record Swept (task : ℕ) (r : Rank) (m : List ℕ) (l n : ℕ) (t : Tally) 
       (outs (visitOf task) (device r m) (upFrom l n))
   pub ends : end (visitOf task) (device (t .rank) s) (upFrom (l + i) (n - i)) ≡ end (visitOf task) (device r m) (upFrom l n)
 
-pub swept-none : (task : ℕ) (r : Rank) (m : List ℕ) (l n : ℕ)
-    → length (r .«catch_words») ≡ 9 → length (r .registers) ≡ 9 → getD (r .repairs) task 0 ≤ totalLimit
+pub swept-none : (task : ℕ) (r : Rank) (m : List ℕ) (l n : ℕ) → length (r .«catch_words») ≡ 9 → getD (r .repairs) task 0 ≤ totalLimit
     → Swept task r m l n (record { refused = 0; rewritten = 0; rank = r }) m 0
-swept-none task r m l n words registers total =
+swept-none task r m l n words total =
     let e : upFrom (l + 0) (n - 0) ≡ upFrom l n = all-lines l n in
     record {
       within = zero-le;
       size = refl;
       words = words;
-      registers = registers;
       total = total;
       few-refused = zero-le;
       few-rewritten = zero-le;
@@ -230,7 +186,6 @@ module _ {task : ℕ} {r : Rank} {m : List ℕ} {l n : ℕ} {t u : Tally} {s x :
         within = omega arith;
         size = now-size ∙ h .size;
         words = ap (λ (y : Rank). length (y .«catch_words»)) now-rank ∙ length-settled task _ (t .rank) (h .words);
-        registers = ap (λ (y : Rank). length (y .registers)) now-rank ∙ length-settled-registers task _ (t .rank) (h .registers);
         total = subst (λ (y : Rank). getD (y .repairs) task 0 ≤ totalLimit) (sym now-rank) (total-settled task _ (t .rank) (h .total));
         few-refused = omega (arith, moves .refused, refused-most (visitOf task d (l + i) .out .outcome), h .few-refused);
         few-rewritten = omega (arith, moves .rewritten, few, h .few-rewritten);

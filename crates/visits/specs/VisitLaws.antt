@@ -1,58 +1,81 @@
 -- A visit with the record and the memory: what it gives, and that to a clean line it changes neither.
 -- Assumes nothing.
-use mathlib.Core.Path.{_≡_, refl, ap, _∙_}
-use mathlib.Core.Bool.{true}
+use mathlib.Core.Path.{_≡_, refl, sym, ap, ap₂, _∙_}
+use mathlib.Core.Bool.{true, cond}
 use mathlib.Core.List.{List}
+use mathlib.Core.Logic.{inl}
 use Prim.Native.Nat.{ℕ, _≤_}
+use lib.Dec.{eqb}
 use lib.ListN.{length, getD}
 use Rattle.passes.specs.Scan.{isClean}
 use Rattle.line.specs.Visit.{bytesAfter, reportOf, refusalOf}
+use Rattle.line.specs.VisitLaws.{outcome-ends}
 use Rattle.line.specs.CleanLaws.{clean-report, clean-bytes}
 use Rattle.line.specs.declared.Report.{Report}
 use Rattle.line.specs.declared.Outcome.the-variants.{Answered}
 use Rattle.record.specs.declared.Rank.{Rank}
-use Rattle.record.specs.Record.{totalLimit, settled}
-use Rattle.record.specs.RecordLaws.{settled-none}
+use Rattle.record.specs.Record.{totalLimit, movedBy, countedBy, settled}
+use Rattle.record.specs.RecordLaws.{settled-none, settled-parts, registers-set}
 use Rattle.memory.specs.Lines.{lineAt, withLine}
 use Rattle.memory.specs.LineLaws.{length-withLine, line-same}
-use Rattle.visits.specs.Visits.{Device, device, visitOf, resultOf}
+use Rattle.visits.specs.declared.read.Visited.{Visited}
+use Rattle.visits.specs.Visits.{device, visitOf, wordsAfter, visitedOf, resultOf}
 
--- what a visit gives, put together from its report v, the number n of its outcome and the record q after it
-pub result-made : (task : ℕ) (r : Rank) (m : List ℕ) (l : ℕ) (v : Report) (n : ℕ) (q : Rank)
-    → v ≡ reportOf (lineAt m l) (r .«catch_words») → n ≡ refusalOf (v .outcome) → q ≡ settled task v r
-    → record { refusal = n; passes = v .passes; flagged = v .flagged; collisions = v .collisions; rank = q }
-    ≡ resultOf (visitOf task (device r m) l)
-unfolding resultOf visitOf
-result-made task r m l v n q report number settle =
-    (λ i. record { refusal = number i; passes = v .passes; flagged = v .flagged; collisions = v .collisions; rank = settle i })
-    ∙ (λ i. record {
-      refusal = refusalOf (report i .outcome);
-      passes = report i .passes;
-      flagged = report i .flagged;
-      collisions = report i .collisions;
-      rank = settled task (report i) r;
-    })
+-- what a visit gives, put together from what it reports, v, and the record's parts after it
+module _ (task : ℕ) (r : Rank) (m : List ℕ) (l : ℕ) where
+  report : Report
+  report = reportOf (lineAt m l) (r .«catch_words»)
 
--- the memory keeps its length
-pub length-visited : (task : ℕ) (d : Device) (l : ℕ) → length (visitOf task d l .now .memory) ≡ length (d .memory)
-unfolding visitOf
-length-visited task d l = length-withLine (d .memory) l (bytesAfter (lineAt (d .memory) l) (d .rank .«catch_words»))
+  pub result-made : (v : Visited) (cws regs totals : List ℕ) → v ≡ visitedOf (reportOf (lineAt m l) (r .«catch_words»))
+      → r .registers ≡ r .«catch_words» → length (r .registers) ≡ 9 → cws ≡ wordsAfter (reportOf (lineAt m l) (r .«catch_words»)) (r .«catch_words»)
+      → regs ≡ cond (eqb (v .collisions) 0) (r .registers) cws → totals ≡ countedBy (v .refusal) task (v .flagged) (r .repairs)
+      → record {
+        refusal = v .refusal;
+        passes = v .passes;
+        flagged = v .flagged;
+        collisions = v .collisions;
+        rank = record { lines = r .lines; enable = r .enable; «catch_words» = cws; registers = regs; repairs = totals };
+      }
+      ≡ resultOf (visitOf task (device r m) l)
+  unfolding resultOf visitOf visitedOf wordsAfter reportOf report
+  result-made v cws regs totals e equal nine words registers counts =
+      let n : ℕ = refusalOf (report .outcome) in
+      let set : regs ≡ movedBy n (report .collisions) (r .registers) =
+      registers
+      ∙ ap₂ (λ (w : Visited) (x : List ℕ). cond (eqb (w .collisions) 0) (r .registers) x) e words
+      ∙ registers-set n (report .collisions) (r .registers) (r .«catch_words») equal nine in
+      let counted : totals ≡ countedBy n task (report .flagged) (r .repairs) =
+      counts ∙ ap (λ (w : Visited). countedBy (w .refusal) task (w .flagged) (r .repairs)) e in
+      (λ i. record {
+        refusal = e i .refusal;
+        passes = e i .passes;
+        flagged = e i .flagged;
+        collisions = e i .collisions;
+        rank = record { lines = r .lines; enable = r .enable; «catch_words» = words i; registers = set i; repairs = counted i };
+      })
+      ∙ ap (λ (q : Rank). record { refusal = n; passes = report .passes; flagged = report .flagged; collisions = report .collisions; rank = q })
+      (sym (settled-parts task report r (outcome-ends (lineAt m l) (r .«catch_words»))))
+
+-- the memory n after a visit is as long as it was
+pub length-visited : (m : List ℕ) (l : ℕ) (cws : List ℕ) {n : List ℕ} → n ≡ withLine m l (bytesAfter (lineAt m l) cws) → length n ≡ length m
+length-visited m l cws e = ap length e ∙ length-withLine m l (bytesAfter (lineAt m l) cws)
 
 -- the report of a visit to a clean line
 abbrev pub clean : Report
 clean = record { outcome = Answered; passes = 1; flagged = 0; collisions = 0 }
 
-module _ (task : ℕ) (r : Rank) (m : List ℕ) (l : ℕ) (size : length (lineAt m l) ≡ 81) (is-clean : isClean (lineAt m l) (r .«catch_words») ≡ true)
-  where
-    pub clean-memory : withLine m l (bytesAfter (lineAt m l) (r .«catch_words»)) ≡ m
-    clean-memory = ap (withLine m l) (clean-bytes (lineAt m l) (r .«catch_words») is-clean size) ∙ line-same m l
+-- the memory after it
+pub clean-memory : (m : List ℕ) (l : ℕ) (cws : List ℕ) → length (lineAt m l) ≡ 81 → isClean (lineAt m l) cws ≡ true
+    → withLine m l (bytesAfter (lineAt m l) cws) ≡ m
+clean-memory m l cws size is-clean = ap (withLine m l) (clean-bytes (lineAt m l) cws is-clean size) ∙ line-same m l
 
-    -- the record's own sizes: nine words twice, and totals within their limit
-    module _ (words : length (r .«catch_words») ≡ 9) (registers : length (r .registers) ≡ 9) (total : getD (r .repairs) task 0 ≤ totalLimit) where
-      pub clean-visit : visitOf task (device r m) l ≡ record { out = clean; now = device r m }
-      unfolding visitOf
-      clean-visit =
-          let report : reportOf (lineAt m l) (r .«catch_words») ≡ clean = clean-report (lineAt m l) (r .«catch_words») is-clean in
-          let kept : settled task (reportOf (lineAt m l) (r .«catch_words»)) r ≡ r =
-          ap (λ (v : Report). settled task v r) report ∙ settled-none task clean r refl refl refl words registers total in
-          λ i. record { out = report i; now = device (kept i) (clean-memory i) }
+-- the visit; the record has nine words twice and its totals within their limit
+pub clean-visit : (task : ℕ) (r : Rank) (m : List ℕ) (l : ℕ) → length (lineAt m l) ≡ 81 → isClean (lineAt m l) (r .«catch_words») ≡ true
+    → length (r .«catch_words») ≡ 9 → length (r .registers) ≡ 9 → getD (r .repairs) task 0 ≤ totalLimit
+    → visitOf task (device r m) l ≡ record { out = clean; now = device r m }
+unfolding visitOf
+clean-visit task r m l size is-clean words registers total =
+    let report : reportOf (lineAt m l) (r .«catch_words») ≡ clean = clean-report (lineAt m l) (r .«catch_words») is-clean in
+    let kept : settled task (reportOf (lineAt m l) (r .«catch_words»)) r ≡ r =
+    ap (λ (v : Report). settled task v r) report ∙ settled-none task clean r (inl refl) refl refl words registers total in
+    λ i. record { out = report i; now = device (kept i) (clean-memory m l (r .«catch_words») size is-clean i) }

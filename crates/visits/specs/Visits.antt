@@ -12,9 +12,10 @@ use Rattle.line.specs.declared.Outcome.{Outcome}
 use Rattle.line.specs.declared.Outcome.the-variants.{Answered, Refused}
 use Rattle.record.specs.declared.Rank.{Rank}
 use Rattle.visits.specs.declared.ReadResult.{ReadResult}
+use Rattle.visits.specs.declared.read.Visited.{Visited}
 use Rattle.visits.specs.Runs.{Did, sumOf}
 use Rattle.memory.specs.Lines.{lineAt, withLine}
-use Rattle.record.specs.Record.{settled}
+use Rattle.record.specs.Record.{movedBy, settled}
 
 -- the record and the lent memory
 pub record Device : Type 0 where
@@ -44,7 +45,15 @@ visitOf task d l =
       };
     }
 
--- what it gives: the number of its outcome; passes and masks are those reached, with 20 and 21 too; and the record
+-- the catch-words after a visit that reports v
+unfoldable pub wordsAfter : Report → List ℕ → List ℕ
+wordsAfter v cws = movedBy (refusalOf (v .outcome)) (v .collisions) cws
+
+-- a report with the number of its outcome
+unfoldable pub visitedOf : Report → Visited
+visitedOf v = record { refusal = refusalOf (v .outcome); passes = v .passes; flagged = v .flagged; collisions = v .collisions }
+
+-- what a visit gives: the number of its outcome; passes and masks are those reached, with 20 and 21 too; and the record
 unfoldable pub resultOf : Did Device Report → ReadResult
 resultOf v =
     record {

@@ -1,42 +1,68 @@
 // The visit of an accepted read.
 ghost use mathlib.Core.Path.{_≡_};
-ghost use Prim.Native.Nat.{_*_, _<_};
+ghost use Prim.Native.Nat.{_+_, _*_, _≤_};
 ghost use lib.ListN.{length};
-ghost use Rattle.cells.specs.Cells.{dataBytes, lineBytes};
-ghost use Rattle.record.specs.Record.{taskLimit};
-ghost use Rattle.visits.specs.Visits.{readBy};
-use crate::ReadResult;
+ghost use Rattle.cells.specs.Cells.{chips, dataBytes, lineBytes, lineOf};
+ghost use Rattle.line.specs.Visit.{bytesAfter, reportOf};
+ghost use Rattle.memory.specs.Lines.{lineAt, withLine};
+ghost use Rattle.visits.specs.Visits.{foundLine, bufferBy, wordsAfter, visitedOf};
 use crate::visit;
-use record::Rank;
+use cells::CHIPS;
+use line::Outcome;
 
-// Visits a line for a task and puts it in a buffer if it is answered.
+// What a read reports: a refusal by its number in document 01, 0 for none, the passes made and the two masks.
+pub struct Visited {
+    pub refusal: u32,
+    pub passes: u32,
+    pub flagged: u32,
+    pub collisions: u32,
+}
+
+// Visits a line and puts it in a buffer if it is answered. Catch-words move in their place; registers and totals are left to the caller.
 pub fn visit_into(
-    rank: Rank,
+    catch_words: &mut [u64; CHIPS],
     memory: &mut [u8],
-    task: u32,
     line: u32,
     buffer: &mut [u8],
-) -> ReadResult
-    requires { ⌜ (length (now memory) ≡ lineBytes * rank .lines) × (task < taskLimit) × (line < rank .lines) × (length (now buffer) ≡ dataBytes) ⌝ }
-    ensures result { λ r. ⌜ r ≡ readBy 0 rank (now (memory .entry)) task line (now (buffer .entry)) .result ⌝ }
-    ensures memory { λ _. ⌜ now (memory .exit) ≡ readBy 0 rank (now (memory .entry)) task line (now (buffer .entry)) .memory ⌝ }
-    ensures buffer { λ _. ⌜ now (buffer .exit) ≡ readBy 0 rank (now (memory .entry)) task line (now (buffer .entry)) .buffer ⌝ }
+) -> Visited
+    requires { ⌜ (length (now «catch_words») ≡ chips) × (lineBytes * line + lineBytes ≤ length (now memory)) × (length (now buffer) ≡ dataBytes) ⌝ }
+    ensures result { λ r. ⌜ r ≡ visitedOf (reportOf (lineAt (now (memory .entry)) line) (now («catch_words» .entry))) ⌝ }
+    ensures catch_words { λ _. ⌜ now («catch_words» .exit)
+        ≡ wordsAfter (reportOf (lineAt (now (memory .entry)) line) (now («catch_words» .entry))) (now («catch_words» .entry)) ⌝ }
+    ensures memory { λ _. ⌜ now (memory .exit)
+        ≡ withLine (now (memory .entry)) line (bytesAfter (lineAt (now (memory .entry)) line) (now («catch_words» .entry))) ⌝ }
+    ensures buffer { λ _. ⌜ now (buffer .exit)
+        ≡ bufferBy (reportOf (lineAt (now (memory .entry)) line) (now («catch_words» .entry)) .outcome)
+        (foundLine (lineAt (now (memory .entry)) line) (now («catch_words» .entry))) (now (buffer .entry)) ⌝ }
 {
-    // A visit would change nothing, and the record is handed back as it came.
-    if memory::is_clean(memory, line, &rank.catch_words) {
+    // A visit would change nothing.
+    if memory::is_clean(memory, line, catch_words) {
         memory::copy(memory, line, buffer);
-        return ReadResult {
+        return Visited {
             refusal: 0,
             passes: 1,
             flagged: 0,
             collisions: 0,
-            rank,
         };
     }
-    let visited = visit(rank, memory, task, line);
-    if visited.refusal != 0 {
-        return visited;
+    let report = visit(catch_words, memory, line);
+    let outcome = report.outcome;
+    copy_answered(outcome, memory, line, buffer);
+    Visited {
+        refusal: line::refusal(outcome),
+        passes: report.passes,
+        flagged: report.flagged,
+        collisions: report.collisions,
     }
+}
+
+// Puts a line's 64 bytes in a buffer if the visit to it is answered.
+fn copy_answered(outcome: Outcome, memory: &[u8], line: u32, buffer: &mut [u8])
+    requires { ⌜ (lineBytes * line + lineBytes ≤ length (now memory)) × (length (now buffer) ≡ dataBytes) ⌝ }
+    ensures { λ _. ⌜ now (buffer .exit) ≡ bufferBy outcome (lineOf (lineAt (now (memory .entry)) line)) (now (buffer .entry)) ⌝ }
+{
+    let Outcome::Answered = outcome else {
+        return;
+    };
     memory::copy(memory, line, buffer);
-    visited
 }

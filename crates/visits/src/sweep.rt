@@ -1,18 +1,25 @@
 // The visits of a patrol.
 ghost use mathlib.Core.Path.{_≡_};
+ghost use mathlib.Core.Bool.{true};
 ghost use Prim.Native.Nat.{_+_, _*_, _^_, _≤_, _<_, min};
 ghost use lib.Count.{ones};
 ghost use lib.ListN.{length};
 ghost use Rattle.cells.specs.Cells.{lineBytes};
 ghost use Rattle.record.specs.Record.{lineLimit, taskLimit};
 ghost use Rattle.visits.specs.Runs.{outs, end, upFrom};
-ghost use Rattle.visits.specs.Visits.{device, visitOf, refusedIn, rewrittenIn};
-ghost use Rattle.visits.specs.Sweep.{tallied};
-use crate::ReadResult;
+ghost use Rattle.visits.specs.Visits.{device, visitOf, isRefused, rewrittenBy, refusedIn, rewrittenIn};
 use crate::visit;
+use line::Outcome;
+use line::Report;
 use record::Rank;
 
-// What a patrol has counted so far, and the record.
+// What a patrol has counted so far: the lines refused and the words rewritten.
+pub struct Counts {
+    pub refused: u32,
+    pub rewritten: u32,
+}
+
+// What the visits of a patrol come to: the counts, and the record.
 pub struct Tally {
     pub refused: u32,
     pub rewritten: u32,
@@ -28,44 +35,51 @@ pub fn allowance(budget: u32, left: u32) -> u32
 
 // Visits n lines from a first line upwards, for one task. A refused line doesn't stop it.
 pub fn sweep(rank: Rank, memory: &mut [u8], task: u32, first: u32, n: u32) -> Tally
-    requires { ⌜ (lineBytes * (first + n) ≤ length (now memory)) × (task < taskLimit) × (first + n ≤ lineLimit) ⌝ }
+    requires { ⌜ (rank .enable ≡ true) × (rank .registers ≡ rank .«catch_words»)
+        × (lineBytes * (first + n) ≤ length (now memory)) × (task < taskLimit) × (first + n ≤ lineLimit) ⌝ }
     ensures refused { λ r. ⌜ r .refused ≡ refusedIn (outs (visitOf task) (device rank (now (memory .entry))) (upFrom first n)) ⌝ }
     ensures rewritten { λ r. ⌜ r .rewritten ≡ rewrittenIn (outs (visitOf task) (device rank (now (memory .entry))) (upFrom first n)) ⌝ }
     ensures after { λ r. ⌜ device (r .rank) (now (memory .exit))
         ≡ end (visitOf task) (device rank (now (memory .entry))) (upFrom first n) ⌝ }
 {
-    let mut tally = Tally {
+    let lines = rank.lines;
+    let mut catch_words = rank.catch_words;
+    let mut totals = rank.repairs;
+    let mut counts = Counts {
         refused: 0,
         rewritten: 0,
-        rank,
     };
     for i in 0..n {
-        let line = first + i;
         // A visit to a clean line would change nothing, and there is nothing to count.
-        if !memory::is_clean(memory, line, &tally.rank.catch_words) {
-            let visited = visit(tally.rank, memory, task, line);
-            tally = tallied(tally, visited);
+        if !memory::is_clean(memory, first + i, &catch_words) {
+            let report = visit(&mut catch_words, memory, first + i);
+            let outcome = report.outcome;
+            record::count(&mut totals, task, line::refusal(outcome), report.flagged);
+            counts = with_visit(counts, report);
         }
     }
-    tally
+    Tally {
+        refused: counts.refused,
+        rewritten: counts.rewritten,
+        rank: record::accepted(lines, catch_words, totals),
+    }
 }
 
-// Counts one visit by what it gave, and takes over the record.
-fn tallied(tally: Tally, visited: ReadResult) -> Tally
-    requires { ⌜ (tally .refused + 1 < 2 ^ 32) × (tally .rewritten + ones (visited .flagged) < 2 ^ 32) ⌝ }
-    ensures { λ r. ⌜ r ≡ tallied tally visited ⌝ }
+// The counts after one visit more, by its report.
+fn with_visit(counts: Counts, report: Report) -> Counts
+    requires { ⌜ (counts .refused + 1 < 2 ^ 32) × (counts .rewritten + ones (report .flagged) < 2 ^ 32) ⌝ }
+    ensures refused { λ r. ⌜ r .refused ≡ counts .refused + isRefused (report .outcome) ⌝ }
+    ensures rewritten { λ r. ⌜ r .rewritten ≡ counts .rewritten + rewrittenBy (report .outcome) (report .flagged) ⌝ }
 {
-    let rank = visited.rank;
-    if visited.refusal != 0 {
-        return Tally {
-            refused: tally.refused + 1,
-            rewritten: tally.rewritten,
-            rank,
+    let outcome = report.outcome;
+    let Outcome::Answered = outcome else {
+        return Counts {
+            refused: counts.refused + 1,
+            rewritten: counts.rewritten,
         };
-    }
-    Tally {
-        refused: tally.refused,
-        rewritten: tally.rewritten + u32::count_ones(visited.flagged),
-        rank,
+    };
+    Counts {
+        refused: counts.refused,
+        rewritten: counts.rewritten + u32::count_ones(report.flagged),
     }
 }

@@ -1,25 +1,26 @@
 -- `visits::visit` meets its contract. Assumes nothing.
-use Rattle.visits.specs.Visits.{visitOf}
-use Rattle.visits.specs.VisitLaws.{result-made}
+use mathlib.Core.Path.{ap, _∙_}
+use Prim.Native.Nat.{ℕ}
+use Rattle.line.specs.declared.Report.{Report}
+use Rattle.record.specs.Record.{movedBy}
+use Rattle.visits.specs.Visits.{wordsAfter}
 use borrow.Author.Needs.{needs}
 use Rattle.visits.proofs.visit.Statement.{statement}
 use Rattle.visits.proofs.visit.Tie as tie
 
 returns : tie.Need-returns
-unfolding visitOf
+unfolding wordsAfter
 returns c =
     let a = c .before .before .before .before .before .before .before .before .before .args in
-    let v = c .before .before .before .before .visit in (
-      result-made (a .task) (a .rank) (a .memory .now) (a .line) (v .result) _ _ (v .ensures .0) (c .before .refusal .ensures) (c .settle .ensures),
-      v .ensures .1,
+    let v = c .before .before .before .before .before .visit in (
+      v .ensures .0,
+      (
+        c .move-words .ensures
+            ∙ ap (λ (n : ℕ). movedBy n (v .result .collisions) (a .catch-words .now)) (c .before .refusal .ensures)
+            ∙ ap (λ (w : Report). wordsAfter w (a .catch-words .now)) (v .ensures .0),
+        v .ensures .1,
+      ),
     )
 
 pub visit-spec : {M : Type 1} → statement M
-visit-spec =
-    tie.close
-    (tie.spec
-    (λ c κs. search needs)
-    (λ c κs. search needs)
-    (λ c κs. search needs)
-    (λ c. search needs)
-    returns)
+visit-spec = tie.close (tie.spec (λ c κs. search needs) (λ c κs. search needs) (λ c κs. search needs) (λ c. search needs) returns)

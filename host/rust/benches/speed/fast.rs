@@ -1,8 +1,10 @@
 //! The six calls in safe Rust written for speed, with the same results as the proved library on every input.
 //!
-//! Words are kept as they stand in the memory, lowest address first, and never swapped: the xor, the remainders and the
-//! copies work on them as they are, and the catch-words are swapped instead. The remainders of eight words are computed
-//! at once in 16-bit lanes, two `u64` abreast, which the compiler puts in SSE2 registers.
+//! Words are kept as they stand in the memory, lowest address first: the xor, the remainders and the copies work on them
+//! as they are, and only a comparison with a catch-word swaps them. The remainders of eight words are computed at once in
+//! 16-bit lanes, two `u64` abreast, which the compiler puts in SSE2 registers. A line is first tested for being clean, by
+//! the xor of its words in the call itself and by the rest out of line, so that a clean line's way has a small frame; what
+//! that test has worked out of a line that is not clean is handed on.
 //!
 //! The calls are `extern "C"`, so that a caller hands over the record in the same way on both sides.
 #![allow(improper_ctypes_definitions)]
@@ -55,12 +57,12 @@ pub extern "C" fn read(rank: Rank, memory: &mut [u8], task: u32, line: u32, buff
         return ReadResult { refusal: 2, passes: 0, flagged: 0, collisions: 0, rank };
     };
     let line = line_of(memory, line);
-    let scan = Scan::of(line, &swapped(&rank));
-    if scan.clean() {
+    let mut seen = Seen { sum: words_xor(line), syndromes: None };
+    if seen.sum == 0 && rest_is_clean(line, &rank.catch_words, &mut seen) {
         take(line, buffer);
         return ReadResult { refusal: 0, passes: 1, flagged: 0, collisions: 0, rank };
     }
-    let Visit { refusal, passes, flagged, collisions } = visit(line, &rank.catch_words, scan);
+    let Visit { refusal, passes, flagged, collisions } = visit(line, &rank.catch_words, seen);
     let mut answer = ReadResult { refusal, passes, flagged, collisions, rank };
     if refusal == 0 {
         settle(&mut answer.rank, task, flagged, collisions);
@@ -78,21 +80,19 @@ pub extern "C" fn patrol(rank: Rank, memory: &mut [u8], task: u32, first: u32, b
     }
     let visited = budget.min(rank.lines - first);
     let mut answer = PatrolResult { refusal: 0, visited, refused: 0, rewritten: 0, rank };
-    let mut catch_words = swapped(&rank);
     let start = LINE_BYTES * first as usize;
     for line in memory[start..start + LINE_BYTES * visited as usize].as_chunks_mut().0 {
-        let scan = Scan::of(line, &catch_words);
-        if scan.clean() {
+        let mut seen = Seen { sum: words_xor(line), syndromes: None };
+        if seen.sum == 0 && rest_is_clean(line, &answer.rank.catch_words, &mut seen) {
             continue;
         }
-        let visit = visit(line, &answer.rank.catch_words, scan);
+        let visit = visit(line, &answer.rank.catch_words, seen);
         if visit.refusal != 0 {
             answer.refused += 1;
             continue;
         }
         answer.rewritten += visit.flagged.count_ones();
         settle(&mut answer.rank, task, visit.flagged, visit.collisions);
-        catch_words = swapped(&answer.rank);
     }
     answer
 }
@@ -185,40 +185,47 @@ fn set_word(line: &mut Line, chip: usize, word: u64) {
     line[9 * chip..9 * chip + 8].copy_from_slice(&word.to_le_bytes());
 }
 
-/// The catch-words as words stand in the memory.
+/// The xor of the nine words.
 #[inline(always)]
-fn swapped(rank: &Rank) -> [u64; 9] {
-    rank.catch_words.map(u64::swap_bytes)
+fn words_xor(line: &Line) -> u64 {
+    (0..9).fold(0, |sum, k| sum ^ word(line, k))
 }
 
-/// What one look at a line gives: the xor of its nine words and of its nine check bytes, the syndromes of chips 0 to 7,
-/// byte K for chip K, and whether a word equals its catch-word.
-struct Scan {
-    words_xor: u64,
-    checks_xor: u8,
-    syndromes: u64,
-    matched: bool,
+/// Whether a chip's word equals its catch-word.
+#[inline(always)]
+fn matches(line: &Line, catch_words: &[u64; 9], chip: usize) -> bool {
+    word(line, chip).swap_bytes() == catch_words[chip]
 }
 
-impl Scan {
-    #[inline(always)]
-    fn of(line: &Line, catch_words: &[u64; 9]) -> Scan {
-        let (mut words_xor, mut checks_xor, mut matched) = (0, 0, false);
-        for k in 0..9 {
-            words_xor ^= word(line, k);
-            checks_xor ^= line[9 * k + 8];
-            matched |= word(line, k) == catch_words[k];
+/// What the test for a clean line has worked out: the xor of the nine words, and the syndromes of chips 0 to 7 if it came to them.
+struct Seen {
+    sum: u64,
+    syndromes: Option<[u64; 2]>,
+}
+
+/// Whether a line whose nine words xor to zero is clean: nine codewords, none a catch-word. Chip 8 holds a codeword by linearity.
+#[inline(never)]
+fn rest_is_clean(line: &Line, catch_words: &[u64; 9], seen: &mut Seen) -> bool {
+    for k in 0..9 {
+        if matches(line, catch_words, k) {
+            return false;
         }
-        let mut lanes = [0; 2];
-        syndromes(line, &mut lanes);
-        Scan { words_xor, checks_xor, syndromes: lanes[0] | lanes[1] << 8, matched }
     }
-
-    /// Nine codewords that xor to zero, none a catch-word. Chip 8 holds a codeword by linearity.
-    #[inline(always)]
-    fn clean(&self) -> bool {
-        self.syndromes | self.words_xor | u64::from(self.checks_xor) | u64::from(self.matched) == 0
+    let held = |k: usize| u64::from(line[9 * k + 8]);
+    let even = held(0) | held(2) << 16 | held(4) << 32 | held(6) << 48;
+    let odd = held(1) | held(3) << 16 | held(5) << 32 | held(7) << 48;
+    let four = even ^ odd;
+    let two = four ^ four >> 32;
+    if (two ^ two >> 16) as u8 != line[80] {
+        return false;
     }
+    let mut asked = [0; 2];
+    check_bytes::<9, LINE_BYTES>(line, &mut asked);
+    if asked == [even, odd] {
+        return true;
+    }
+    seen.syndromes = Some([asked[0] ^ even, asked[1] ^ odd]);
+    false
 }
 
 #[inline(always)]
@@ -231,7 +238,7 @@ fn take(line: &Line, buffer: &mut [u8; 64]) {
 #[inline(always)]
 fn lay(line: &mut Line, data: &[u8; 64]) {
     let mut lanes = [0; 2];
-    check_bytes(data, &mut lanes);
+    check_bytes::<8, 64>(data, &mut lanes);
     let asked = lanes[0] | lanes[1] << 8;
     let mut sum = 0;
     for k in 0..8 {
@@ -261,19 +268,29 @@ struct Visit {
 
 /// A visit to a line that is not clean. An answered line is repaired.
 #[inline(never)]
-fn visit(line: &mut Line, catch_words: &[u64; 9], scan: Scan) -> Visit {
-    let sum = scan.words_xor;
+fn visit(line: &mut Line, catch_words: &[u64; 9], seen: Seen) -> Visit {
+    let sum = seen.sum;
     let sum_asks = check_byte(sum);
+    let lanes = seen.syndromes.unwrap_or_else(|| {
+        let mut lanes = [0; 2];
+        syndromes(line, &mut lanes);
+        lanes
+    });
+    let eight = lanes[0] | lanes[1] << 8;
     // The syndromes of all nine xor to that of the sums.
-    let last = bytes_xor(scan.syndromes) ^ sum_asks ^ scan.checks_xor;
-    let syndrome = |chip: usize| if chip == 8 { last } else { (scan.syndromes >> (8 * chip)) as u8 };
+    let checks_xor = (0..9).fold(0, |sum, k| sum ^ line[9 * k + 8]);
+    let last = bytes_xor(eight) ^ sum_asks ^ checks_xor;
+    let syndrome = |chip: usize| if chip == 8 { last } else { (eight >> (8 * chip)) as u8 };
 
-    let flagged = nonzero_bytes(scan.syndromes) | u32::from(last != 0) << 8;
-    let mut matches = 0;
-    for (k, catch_word) in catch_words.iter().enumerate() {
-        matches |= u32::from(word(line, k).swap_bytes() == *catch_word) << k;
+    let flagged = nonzero_bytes(eight) | u32::from(last != 0) << 8;
+    let mut matched = 0;
+    // Most lines have no such word, and the mask is then not put together.
+    if (0..9).any(|k| matches(line, catch_words, k)) {
+        for k in 0..9 {
+            matched |= u32::from(matches(line, catch_words, k)) << k;
+        }
     }
-    let collisions = matches & !flagged;
+    let collisions = matched & !flagged;
     let seen = |refusal, passes| Visit { refusal, passes, flagged, collisions };
 
     if flagged == 0 {
@@ -413,10 +430,10 @@ fn syndromes(line: &Line, lanes: &mut [u64; 2]) {
     lanes[1] = odd;
 }
 
-/// The check bytes of a line's eight words in 16-bit lanes, even chips and odd chips apart.
+/// The check bytes of eight words that begin at the multiples of `APART`, in 16-bit lanes, even and odd words apart.
 #[inline(never)]
-fn check_bytes(data: &[u8; 64], lanes: &mut [u64; 2]) {
-    let at = |k: usize| u64::from_le_bytes(*data[8 * k..].first_chunk().unwrap());
+fn check_bytes<const APART: usize, const LENGTH: usize>(bytes: &[u8; LENGTH], lanes: &mut [u64; 2]) {
+    let at = |k: usize| u64::from_le_bytes(*bytes[APART * k..].first_chunk().unwrap());
     let p = halves(Two(at(0), at(1)), Two(at(4), at(5)));
     let q = halves(Two(at(2), at(3)), Two(at(6), at(7)));
     let Two(even, odd) = checks(quarters(p, q));

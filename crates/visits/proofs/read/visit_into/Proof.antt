@@ -1,100 +1,65 @@
 -- `visits::read::visit_into` meets its contract. Assumes nothing.
-use mathlib.Core.Path.{_≡_, sym, ap, _∙_}
-use Prim.Native.Nat.{_≤_}
-use lib.ListN.{length, getD}
+use mathlib.Core.Path.{sym, ap, _∙_}
+use Prim.Native.Nat.{ℕ}
 use native.Mathlib.Omega.{arith}
-use mir.Syntax.{w32}
-use mir.Val.{Fits}
 use Rattle.words.specs.ByteLaws.{Bytes}
-use Rattle.record.specs.Record.{totalLimit}
-use Rattle.visits.specs.declared.ReadResult.{ReadResult}
-use Rattle.visits.specs.Visits.{device, resultOf, readBy}
+use Rattle.visits.specs.Visits.{visitedOf}
 use Rattle.visits.specs.VisitLaws.{length-visited}
-use Rattle.visits.specs.ReadLaws.{refused-buffer, answered-buffer, clean-result, clean-kept, clean-buffer}
+use Rattle.visits.specs.ReadLaws.{visited-buffer, clean-visited, clean-words, clean-kept, clean-buffer}
 use borrow.Author.Needs.{needs}
 use Rattle.visits.proofs.read.visit_into.Statement.{statement}
 use Rattle.visits.proofs.read.visit_into.Tie as tie
 
--- what the record's type says of it
-words : (x : tie.Start) → length (x .args .t1 .«catch_words») ≡ 9
-words x = search needs
-
-registers : (x : tie.Start) → length (x .args .t1 .registers) ≡ 9
-registers x = search needs
-
-total : (x : tie.Start) → getD (x .args .t1 .repairs) (x .args .task) 0 ≤ totalLimit
-total x =
-    let fits : Fits w32 (getD (x .args .t1 .repairs) (x .args .task) 0) = search needs in
-    omega (arith, fits .fits)
-
 is-clean-requires : tie.Need-is-clean-requires
-is-clean-requires c κs =
-    let s = c .before .before .before .before .before in
-    (omega (arith, s .pre .0, s .pre .2), search needs)
+is-clean-requires c κs = let s = c .before .before .before .before in (s .pre .1, s .pre .0)
 
 copy-requires : tie.Need-copy-requires
-copy-requires c κs =
-    let s = c .before .before .before .before .before .before .before .before .before in
-    (omega (arith, s .pre .0, s .pre .2), s .pre .3)
+copy-requires c κs = let s = c .before .before .before .before .before .before .before .before in (s .pre .1, s .pre .2)
 
--- a clean line: the record as it came
 returns : tie.Need-returns
 returns c =
-    let k = c .before .before .before .before .before .before .before .before .before .before .before in
+    let k = c .before .before .before .before .before .before .before .before .before .before in
     let s = k .before in
     let a = s .args in
     let clean = sym (c .before .before .before .before .before .before .is-clean .ensures) ∙ c .before .before .before .before .before .if1 .taken in
     let bytes : Bytes (a .memory .now) = λ i. k .slice-known .given i .fits in (
-      clean-result (a .t1) (a .memory .now) (a .task) (a .line) (a .buffer .now) (s .pre .0) (s .pre .2) bytes clean (words s) (registers s) (total s),
+      clean-visited (a .memory .now) (a .catch-words .now) (a .line) (s .pre .1) bytes clean,
       (
-        clean-kept (a .t1) (a .memory .now) (a .task) (a .line) (a .buffer .now) (s .pre .0) (s .pre .2) bytes clean (words s) (registers s) (total s),
-        c .before .before .copy .ensures
-            ∙ clean-buffer (a .t1) (a .memory .now) (a .task) (a .line) (a .buffer .now) (s .pre .0) (s .pre .2) bytes clean (words s) (registers s)
-            (total s),
+        clean-words (a .memory .now) (a .catch-words .now) (a .line) (s .pre .1) bytes clean (s .pre .0),
+        (
+          clean-kept (a .memory .now) (a .catch-words .now) (a .line) (s .pre .1) bytes clean,
+          c .before .before .copy .ensures ∙ clean-buffer (a .memory .now) (a .catch-words .now) (a .line) (s .pre .1) bytes clean (a .buffer .now),
+        ),
       ),
     )
 
 visit-requires : tie.Need-visit-requires
-visit-requires c κs =
-    let s = c .before .before .before .before .before .before .before .before in
-    (omega (arith, s .pre .0, s .pre .2), omega (arith, s .pre .1))
+visit-requires c κs = let s = c .before .before .before .before .before .before .before .before in (s .pre .0, s .pre .1)
 
--- refused 20 or 21
+copy-answered-requires : tie.Need-copy-answered-requires
+copy-answered-requires c κs =
+    let s = c .before .before .before .before .before .before .before .before .before .before .before .before .before in
+    let kept = length-visited (s .args .memory .now) (s .args .line) (s .args .catch-words .now) (c .before .before .before .before .visit .ensures .1 .1) in
+    (omega (arith, kept, s .pre .1), s .pre .2)
+
 returns-2 : tie.Need-returns-2
-unfolding readBy resultOf
+unfolding visitedOf
 returns-2 c =
-    let a = c .before .before .before .before .before .before .before .before .before .before .before .before .before .args in
-    let v = c .before .before .before .before .visit in (
-      v .ensures .0,
-      (
-        v .ensures .1,
-        refused-buffer (a .t1) (a .memory .now) (a .task) (a .line) (a .buffer .now)
-            (λ z. c .if2 .taken (ap (λ (q : ReadResult). q .refusal) (v .ensures .0) ∙ z)),
-      ),
-    )
-
-copy-requires-2 : tie.Need-copy-requires-2
-copy-requires-2 c κs =
-    let s = c .before .before .before .before .before .before .before .before .before .before .before .before .before .before .before in
-    let v = c .before .before .before .before .before .before .visit in
-    let z : length (v .last .1 .0) ≡ length (s .args .memory .now) =
-    ap length (v .ensures .1) ∙ length-visited (s .args .task) (device (s .args .t1) (s .args .memory .now)) (s .args .line) in
-    (omega (arith, z, s .pre .0, s .pre .2), s .pre .3)
-
-returns-3 : tie.Need-returns-3
-unfolding readBy resultOf
-returns-3 c =
-    let k = c .before .before .before .before .before .before .before .before .before .before .before .before .before .before .before .before .before in
+    let k = c .before .before .before .before .before .before .before .before .before .before .before .before .before .before .before .before in
     let s = k .before in
     let a = s .args in
-    let v = c .before .before .before .before .before .before .before .before .before .visit in (
-      v .ensures .0,
+    let v = c .before .before .before .before .before .before .before .before .visit in (
+      ap (λ (n : ℕ). record { refusal = n; passes = v .result .passes; flagged = v .result .flagged; collisions = v .result .collisions })
+          (c .refusal .ensures)
+          ∙ ap visitedOf (v .ensures .0),
       (
-        v .ensures .1,
-        c .before .before .copy2 .ensures
-            ∙ answered-buffer (a .t1) (a .memory .now) (a .task) (a .line) (a .buffer .now) (s .pre .0) (s .pre .2) (λ i. k .slice-known .given i .fits)
-            (v .last .1 .0) (v .ensures .1) (λ i. c .before .before .before .before .before .before .before .slice-known4 .given i .fits)
-            (sym (ap (λ (q : ReadResult). q .refusal) (v .ensures .0)) ∙ c .before .before .before .before .before .if2 .left),
+        v .ensures .1 .0,
+        (
+          v .ensures .1 .1,
+          c .before .before .before .copy-answered .ensures
+              ∙ visited-buffer (a .memory .now) (a .catch-words .now) (a .line) (s .pre .1) (λ i. k .slice-known .given i .fits) (a .buffer .now)
+              (v .result) (v .ensures .0) _ (v .ensures .1 .1) (λ i. c .before .before .before .before .before .before .slice-known4 .given i .fits),
+        ),
       ),
     )
 
@@ -108,9 +73,8 @@ visit-into-spec =
     (λ c. search needs)
     returns
     visit-requires
+    copy-answered-requires
+    (λ c κs. search needs)
     (λ c. search needs)
-    returns-2
-    copy-requires-2
     (λ c. search needs)
-    (λ c. search needs)
-    returns-3)
+    returns-2)

@@ -1,0 +1,129 @@
+-- What pass three keeps, a turn for each flagged chip. Assumes nothing.
+use mathlib.Core.Path.{_≡_, refl, sym, ap, ap₂, _∙_}
+use mathlib.Core.Bool.{Bool, true, false, not, _&&_, _||_, cond, true≢false}
+use mathlib.Core.List.{List}
+use Prim.Native.Nat.{ℕ, _*_, _^_, _<_}
+use native.Mathlib.Omega.{arith}
+use lib.Bits.{bitOr, bitXor}
+use lib.Dec.{eqb}
+use lib.ListN.{length, getD, set, length-set}
+use lib.Seq.{getD-set-same, getD-set-other}
+use borrow.Author.Tests.{eqb-true, eqb-false}
+use Rattle.code.specs.TestLaws.{and-first}
+use Rattle.cells.specs.Chips.{xorAll, bit, mask, inMask, AtPlaces}
+use Rattle.cells.specs.ChipLaws.{xorAll-ext, xorAll-change, mask-ext, mask-zero}
+use Rattle.cells.specs.MaskLaws.{TakenOff, mask-with, no-member}
+use Rattle.cells.proofs.Loops.{Pending, pending-all, pending-next, rest-own, rest-other, member-is}
+use Rattle.passes.specs.Passes.{catchWord, passOne, passThree, isCandidate, isFlagged, isFlaggedBeyond, isUnsound}
+use Rattle.passes.specs.PassLaws.{mendedAt, beyondAt, sent-word, third-sent, sound-mended, sound-mends, flagged-is, flagged-beyond-is}
+
+-- ---- values put at the places of a mask's chips
+
+-- s has f at the place of each chip that passes p, but for those of `rest`
+pub record Put (p : ℕ → Bool) (f : ℕ → ℕ) (rest : ℕ) (s : List ℕ) : Type 0 where
+  pub size : length s ≡ 9
+  pub done : (k : ℕ) → k < 9 → p k ≡ true → inMask rest k ≡ false → getD s k 0 ≡ f k
+
+pub put-none : (p : ℕ → Bool) (f : ℕ → ℕ) {rest : ℕ} {s : List ℕ} → rest ≡ mask p 9 → length s ≡ 9 → Put p f rest s
+put-none p f e n =
+    record { size = n; done = λ k l t o. absurd (true≢false (sym t ∙ sym (member-is p e l refl) ∙ o)) }
+
+pub put-more : {p : ℕ → Bool} {f : ℕ → ℕ} {rest k t v : ℕ} {s : List ℕ} → Put p f rest s → TakenOff rest k t → v ≡ f k → Put p f t (set s k v)
+put-more {p} {f} {rest} {k} {t} {v} {s} h l e =
+    record { size = length-set s k v ∙ h .size; done = λ i b u o. pick i b u o (eqb i k) refl }
+  where
+    pick : (i : ℕ) → i < 9 → p i ≡ true → inMask t i ≡ false → (b : Bool) → eqb i k ≡ b → getD (set s k v) i 0 ≡ f i
+    pick i b u o true q =
+        let own : i ≡ k = eqb-true i k q in
+        ap (λ (j : ℕ). getD (set s k v) j 0) own ∙ getD-set-same s k v 0 (omega (arith, h .size, l .below)) ∙ e ∙ ap f (sym own)
+    pick i b u o false q =
+        let ne : i ≡ k → ⊥ = eqb-false i k q in
+        getD-set-other s k i v 0 ne ∙ h .done i b u (sym (rest-other l i b ne) ∙ o)
+
+pub put-all : {p : ℕ → Bool} {f : ℕ → ℕ} {rest : ℕ} {s : List ℕ} → Put p f rest s → rest ≡ 0 → AtPlaces p f s 9
+put-all h e = record { at = λ k l t. h .done k l t (ap (λ (m : ℕ). inMask m k) e ∙ no-member k l) }
+
+-- ---- m stands for the line's bytes, cws for the catch-words
+
+module _ (m cws : List ℕ) where
+  -- what chip k has sent while the chips of `rest` have not sent in pass three
+  pub between : ℕ → ℕ → ℕ
+  between rest k = cond (inMask rest k) (passOne m cws k) (passThree m cws k)
+
+  -- a chip that is not flagged sends the same in pass one and in pass three
+  same-sent : (k : ℕ) → isFlagged m cws k ≡ false → passOne m cws k ≡ passThree m cws k
+  same-sent k e =
+      let sound : isUnsound m k ≡ false = sym (flagged-is m cws k) ∙ e in
+      sent-word m cws k sound ∙ sym (sound-mended m k sound) ∙ sym (third-sent m cws k)
+
+  -- which of the others are beyond mending
+  pub among : ℕ → ℕ → Bool
+  among rest k = not (inMask rest k) && beyondAt m k
+
+  -- the flagged chips of `rest` have not sent in pass three; the xor of what was sent, and the chips found beyond mending, are those of the
+  -- others
+  pub record Sent (rest left beyond : ℕ) : Type 0 where
+    pub pending : Pending (isFlagged m cws) rest
+    pub parity : left ≡ xorAll (between rest) 9
+    pub found : beyond ≡ mask (among rest) 9
+
+  pub sent-none : {rest left : ℕ} → rest ≡ mask (isFlagged m cws) 9 → left ≡ xorAll (passOne m cws) 9 → Sent rest left 0
+  unfolding between among
+  sent-none {rest} e p =
+      record {
+        pending = pending-all (isFlagged m cws) e;
+        parity = p ∙ xorAll-ext _ _ 9 (λ k l. all k l (inMask rest k) refl);
+        found = sym (mask-zero _ 9 (λ k l. none k l (inMask rest k) refl));
+      }
+    where
+      sound : (k : ℕ) → k < 9 → inMask rest k ≡ false → isFlagged m cws k ≡ false
+      sound k l o = sym (member-is (isFlagged m cws) e l refl) ∙ o
+
+      all : (k : ℕ) → k < 9 → (b : Bool) → inMask rest k ≡ b → passOne m cws k ≡ cond b (passOne m cws k) (passThree m cws k)
+      all k l true o = refl
+      all k l false o = same-sent k (sound k l o)
+
+      none : (k : ℕ) → k < 9 → (b : Bool) → inMask rest k ≡ b → (not b && beyondAt m k) ≡ false
+      none k l true o = refl
+      none k l false o = sound-mends m k (sym (flagged-is m cws k) ∙ sound k l o)
+
+  pub sent-more : {rest left beyond k t w : ℕ} {b : Bool} → Sent rest left beyond → TakenOff rest k t → w ≡ mendedAt m k → b ≡ beyondAt m k
+      → {v : ℕ} → v ≡ bit b * 2 ^ k → Sent t (bitXor (bitXor left (catchWord cws k)) w) (bitOr beyond v)
+  unfolding between among isFlagged isCandidate
+  sent-more {rest} {left} {beyond} {k} {t} {w} {b} h l ew eb {v} ev =
+      let flagged : isFlagged m cws k ≡ true = h .pending .chips k (l .below) (l .member) in
+      let own : passOne m cws k ≡ catchWord cws k = eqb-true _ _ (and-first _ _ flagged) in
+      let before : between rest k ≡ catchWord cws k = ap (λ (c : Bool). cond c (passOne m cws k) (passThree m cws k)) (l .member) ∙ own in
+      let after : between t k ≡ w = ap (λ (c : Bool). cond c (passOne m cws k) (passThree m cws k)) (rest-own l) ∙ third-sent m cws k ∙ sym ew in
+      record {
+        pending = pending-next (h .pending) l;
+        parity =
+            ap₂ (λ (x y : ℕ). bitXor (bitXor x y) w) (h .parity) (sym before) ∙ ap (bitXor (bitXor (xorAll (between rest) 9) (between rest k))) (sym after)
+            ∙ xorAll-change (between rest) (between t) 9 k (l .below)
+            (λ i u ne. ap (λ (c : Bool). cond c (passOne m cws i) (passThree m cws i)) (sym (rest-other l i u ne)));
+        found =
+            ap₂ bitOr (h .found) (ev ∙ ap (λ (c : Bool). bit c * 2 ^ k) eb)
+            ∙ mask-with (among rest) (beyondAt m k) k (l .below)
+            ∙ mask-ext _ (among t) 9 (λ i u. put i u (eqb i k) refl);
+      }
+    where
+      or-false : (c : Bool) → (c || false) ≡ c
+      or-false true = refl
+      or-false false = refl
+
+      put : (i : ℕ) → i < 9 → (e : Bool) → eqb i k ≡ e → ((not (inMask rest i) && beyondAt m i) || (e && beyondAt m k)) ≡ (not (inMask t i) && beyondAt m i)
+      put i u true q =
+          let own : i ≡ k = eqb-true i k q in
+          ap₂ (λ (c : Bool) (j : ℕ). (not c && beyondAt m i) || beyondAt m j) (ap (inMask rest) own ∙ l .member) (sym own)
+          ∙ ap (λ (c : Bool). not c && beyondAt m i) (sym (ap (inMask t) own ∙ rest-own l))
+      put i u false q =
+          or-false _ ∙ ap (λ (c : Bool). not c && beyondAt m i) (sym (rest-other l i u (eqb-false i k q)))
+
+  pub sent-all : {rest left beyond : ℕ} → Sent rest left beyond → rest ≡ 0
+      → (left ≡ xorAll (passThree m cws) 9) × (beyond ≡ mask (isFlaggedBeyond m cws) 9)
+  unfolding between among
+  sent-all {rest} h e =
+      let none : (k : ℕ) → k < 9 → inMask rest k ≡ false = λ k l. ap (λ (x : ℕ). inMask x k) e ∙ no-member k l in (
+        h .parity ∙ xorAll-ext _ _ 9 (λ k l. ap (λ (c : Bool). cond c (passOne m cws k) (passThree m cws k)) (none k l)),
+        h .found ∙ mask-ext _ _ 9 (λ k l. ap (λ (c : Bool). not c && beyondAt m k) (none k l) ∙ sym (flagged-beyond-is m cws k)),
+      )
