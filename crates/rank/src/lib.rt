@@ -124,13 +124,13 @@ pub extern "C" fn rank_patrol(
     let left = rank.lines - first;
     let visited = sweep::allowance(budget, left);
     let tally = sweep::sweep(rank, memory, task, first, visited);
-    let after = tally.rank;
+    let swept = tally.rank;
     PatrolResult {
         refusal: 0,
         visited,
         refused: tally.refused,
         rewritten: tally.rewritten,
-        rank: after,
+        rank: swept,
     }
 }
 

@@ -11,7 +11,7 @@ use Rattle.visits.proofs.read.visit_into.Statement.{statement}
 use Rattle.visits.proofs.read.visit_into.Tie as tie
 
 is-clean-requires : tie.Need-is-clean-requires
-is-clean-requires c κs = let s = c .before .before .before .before in (s .pre .1, s .pre .0)
+is-clean-requires c κs = let s = c .before .before .before .before in (omega (arith, s .pre .1), s .pre .0)
 
 copy-requires : tie.Need-copy-requires
 copy-requires c κs = let s = c .before .before .before .before .before .before .before .before in (s .pre .1, s .pre .2)
