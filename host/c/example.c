@@ -127,7 +127,7 @@ static void tell(uint32_t line, const ReadResult *read) {
         printf(" were mended by their own codes, or one of them rebuilt");
     }
     if (read->collisions != 0) {
-        printf(", data met the catch-word of chip ");
+        printf(", data equalled the catch-word of chip ");
         print_chips(read->collisions);
         printf(", which has a new one");
     }

@@ -1,8 +1,7 @@
 -- Laws of how large the numbers are that are printed: a refusal has at most two decimal digits, the passes one and a mask three hexadecimal
 -- digits, so that `decimalText` and `hexText` print them whole. The first word has sixteen, as a number of 64 bits.
 -- Assumes nothing.
-use mathlib.Core.Path.{_≡_, sym, subst}
-use mathlib.Core.Logic.{⊎-elim}
+use mathlib.Core.Path.{_≡_}
 use mathlib.Core.Bool.{Bool, true, false}
 use mathlib.Core.List.{List, [], _∷_, _++_}
 use Prim.Native.Nat.{ℕ, zero, suc, _+_, _<_}
@@ -13,10 +12,9 @@ use Rattle.cells.specs.Chips.{bit, mask, count}
 use Rattle.cells.specs.ChipLaws.{mask-lt}
 use Rattle.passes.specs.Passes.{isCandidate, isFlagged, isCollision, flaggedChips}
 use Rattle.line.specs.Visit.{outcomeOf, passesOf, reportOf, refusalOf}
-use Rattle.line.specs.VisitLaws.{outcome-ends}
 use Rattle.line.specs.declared.Outcome.{Outcome}
-use Rattle.line.specs.declared.Outcome.the-variants.{Answered, Refused}
-use Rattle.refusals.specs.Refusals.{lineOut, bufferOut, chipOut, patternOut, notReady, memoryDiffers, registerDiffers, taskOut, refusedIf, firstOf, stateRefusals, writeRefusal, readRefusal, faultRefusal}
+use Rattle.line.specs.declared.Outcome.the-variants.{Answered, Unlocated, Uncorrectable}
+use Rattle.refusals.specs.Refusals.{lineOut, bufferOut, chipOut, patternOut, notReady, memoryDiffers, registerDiffers, taskOut, refusedIf, firstOf, stateRefusals, writeRefusal, readTests, faultRefusal}
 use Rattle.memory.specs.Lines.{lineAt}
 use Rattle.visits.specs.Visits.{visitOf, resultOf, readBy}
 use Rattle.rank.specs.Calls.{writeBy, writeOf, readOf, faultBy, faultOf}
@@ -46,8 +44,8 @@ write-lt r m l b =
     state-lt r m (refusedIf (lineOut r l) 1 ∷ refusedIf (bufferOut b) 2 ∷ [])
     (if-lt (lineOut r l) 1 (lit< tt), (if-lt (bufferOut b) 2 (lit< tt), tt))
 
-read-lt : (r : Rank) (m : List ℕ) (task l : ℕ) (b : List ℕ) → readRefusal r m task l b < 100
-unfolding readRefusal
+read-lt : (r : Rank) (m : List ℕ) (task l : ℕ) (b : List ℕ) → readTests r m task l b < 100
+unfolding readTests
 read-lt r m task l b =
     state-lt r m (refusedIf (taskOut task) 31 ∷ refusedIf (lineOut r l) 1 ∷ refusedIf (bufferOut b) 2 ∷ [])
     (if-lt (taskOut task) 31 (lit< tt), (if-lt (lineOut r l) 1 (lit< tt), (if-lt (bufferOut b) 2 (lit< tt), tt)))
@@ -84,12 +82,11 @@ pub record Small (v : ReadResult) : Type 0 where
   pub flagged : v .flagged < 4096
   pub collisions : v .collisions < 4096
 
-outcome-lt : (m cws : List ℕ) → refusalOf (outcomeOf m cws) < 100
+outcome-lt : (o : Outcome) → refusalOf o < 100
 unfolding refusalOf
-outcome-lt m cws = ⊎-elim (at Answered (lit< tt)) (⊎-elim (at (Refused 20) (lit< tt)) (at (Refused 21) (lit< tt))) (outcome-ends m cws)
-  where
-    at : (o : Outcome) → refusalOf o < 100 → outcomeOf m cws ≡ o → refusalOf (outcomeOf m cws) < 100
-    at o h e = subst (λ (x : Outcome). refusalOf x < 100) (sym e) h
+outcome-lt Answered = lit< tt
+outcome-lt Unlocated = lit< tt
+outcome-lt Uncorrectable = lit< tt
 
 bit-lt : (t : Bool) → bit t < 2
 bit-lt true = lit< tt
@@ -102,7 +99,7 @@ read-by : (n : ℕ) (r : Rank) (m : List ℕ) (task l : ℕ) (b : List ℕ) → 
 unfolding readBy resultOf visitOf reportOf passesOf
 read-by zero r m task l b h =
     record {
-      refusal = outcome-lt (lineAt m l) (r .«catch_words»);
+      refusal = outcome-lt (outcomeOf (lineAt m l) (r .«catch_words»));
       passes =
           omega (arith, bit-lt (ltb 0 (count (isCandidate (lineAt m l) (r .«catch_words»)) 9)), bit-lt (ltb 1 (flaggedChips (lineAt m l) (r .«catch_words»))));
       flagged = three-digits (isFlagged (lineAt m l) (r .«catch_words»));
@@ -112,4 +109,4 @@ read-by (suc n) r m task l b h = record { refusal = h; passes = lit< tt; flagged
 
 pub read-small : (r : Rank) (m : List ℕ) (task l : ℕ) (b : List ℕ) {v : ReadResult} → v ≡ readOf r m task l b .result → Small v
 unfolding readOf
-read-small r m task l b e = rw e (read-by (readRefusal r m task l b) r m task l b (read-lt r m task l b))
+read-small r m task l b e = rw e (read-by (readTests r m task l b) r m task l b (read-lt r m task l b))

@@ -11,19 +11,13 @@ use native.Mathlib.Omega.{arith}
 use lib.Arith.{digits-lt}
 use lib.Pow.{pow-pos, pow-add, high}
 use lib.Bits.{bitAnd, bitXor, and-block, xor-block, xor-lt, xor-zero-r}
-use lib.ListN.{length, getD, take, length-append, List·getD-append}
-use lib.Seq.{getD-at, take-suc, take-all}
+use lib.ListN.{length, getD, take, length-append}
+use lib.Seq.{take-suc, take-all}
 use lib.Dec.{eqb}
 use borrow.Author.Tests.{eq-eqb, ne-eqb, eqb-true, eqb-false, not-false}
 use lib.Count.{ones, onesIn, ones-cat}
 use Rattle.code.specs.XorLaws.{xor-four, xor-cancel-r}
 use Rattle.cells.specs.Chips.{ofChips, joined, xorAll, bit, count, mask, inMask}
-
--- where b shows a, both together are b
-pub and-shown : (a b : Bool) → (b ≡ true → a ≡ true) → (a && b) ≡ b
-and-shown true b h = refl
-and-shown false true h = h refl
-and-shown false false h = refl
 
 -- a number k below n + 1 is n or below n
 pub last : {A : Type 0} {k n : ℕ} → k < suc n → (k ≡ n → A) → (k < n → A) → A
@@ -35,14 +29,6 @@ pub length-ofChips : (f : ℕ → ℕ) (n : ℕ) → length (ofChips f n) ≡ n
 unfolding ofChips
 length-ofChips f zero = refl
 length-ofChips f (suc n) = length-append (ofChips f n) (f n ∷ []) ∙ ap (λ (x : ℕ). x + 1) (length-ofChips f n) ∙ add-one n
-
-pub getD-ofChips : (f : ℕ → ℕ) (n k : ℕ) → k < n → getD (ofChips f n) k 0 ≡ f k
-unfolding ofChips
-getD-ofChips f zero k h = absurd (not-suc-le-zero h)
-getD-ofChips f (suc n) k h =
-    last h
-    (λ (e : k ≡ n). ap (λ (j : ℕ). getD (ofChips f n ++ (f n ∷ [])) j 0) e ∙ getD-at (ofChips f n) (f n) [] 0 n (length-ofChips f n) ∙ ap f (sym e))
-    (λ (l : k < n). List·getD-append (ofChips f n) (f n ∷ []) 0 k (omega (arith, length-ofChips f n)) ∙ getD-ofChips f n k l)
 
 -- ---- what agrees at each chip agrees
 
@@ -266,18 +252,6 @@ count-le p q zero h = zero-le
 count-le p q (suc n) h =
     omega (arith, count-le p q n (λ k l. h k (omega arith)), bit-le (p n) (q n) (h n (omega arith)))
 
--- and where as many do, each chip that passes q passes p
-pub count-all : (p q : ℕ → Bool) (n : ℕ) → ((k : ℕ) → k < n → p k ≡ true → q k ≡ true) → count q n ≤ count p n
-    → (k : ℕ) → k < n → q k ≡ true → p k ≡ true
-unfolding count
-count-all p q zero h c k l e = absurd (not-suc-le-zero l)
-count-all p q (suc n) h c k l e =
-    let below : count p n ≤ count q n = count-le p q n (λ j i. h j (omega arith)) in
-    let here : bit (p n) ≤ bit (q n) = bit-le (p n) (q n) (h n (omega arith)) in
-    last l
-    (λ (i : k ≡ n). ap p i ∙ bit-some (p n) (omega (arith, ap bit (sym (ap q i) ∙ e))))
-    (λ (i : k < n). count-all p q n (λ j g. h j (omega arith)) (omega arith) k i e)
-
 -- where f is other than zero at no more than one chip, the xor is zero exactly if f is zero at each chip
 pub xorAll-few : (f : ℕ → ℕ) (n : ℕ) → count (λ k. not (eqb (f k) 0)) n ≤ 1
     → eqb (xorAll f n) 0 ≡ eqb (count (λ k. not (eqb (f k) 0)) n) 0
@@ -315,6 +289,31 @@ count-mask p n e = mask-zero p n (count-none p n e)
 -- no chip is counted where none passes the test
 pub count-zero : (p : ℕ → Bool) (n : ℕ) → ((k : ℕ) → k < n → p k ≡ false) → count p n ≡ 0
 count-zero p n h = mask-count p n (mask-zero p n h)
+
+-- where two that pass a test are one, no more than one chip is counted
+pub count-few : (p : ℕ → Bool) (n : ℕ) → ((j k : ℕ) → j < n → k < n → p j ≡ true → p k ≡ true → j ≡ k) → count p n ≤ 1
+unfolding count
+count-few p zero h = zero-le
+count-few p (suc n) h = by (p n) refl (count-few p n (λ j k hj hk. h j k (omega arith) (omega arith)))
+  where
+    by : (b : Bool) → p n ≡ b → count p n ≤ 1 → count p n + bit b ≤ 1
+    by true e rest = omega (arith, count-zero p n (λ j l. other j l (p j) refl))
+      where
+        other : (j : ℕ) → j < n → (b : Bool) → p j ≡ b → b ≡ false
+        other j l true f = absurd (omega (arith, l, h j n (omega arith) (omega arith) f e))
+        other j l false f = refl
+    by false e rest = omega (arith, rest)
+
+-- where some chip is counted, there is one that passes the test
+pub count-found : (p : ℕ → Bool) (n : ℕ) → 1 ≤ count p n → (k : ℕ) × ((k < n) × (p k ≡ true))
+unfolding count
+count-found p zero h = absurd (not-suc-le-zero h)
+count-found p (suc n) h = by (p n) refl h (count-found p n)
+  where
+    by : (b : Bool) → p n ≡ b → 1 ≤ count p n + bit b → (1 ≤ count p n → (k : ℕ) × ((k < n) × (p k ≡ true)))
+        → (k : ℕ) × ((k < suc n) × (p k ≡ true))
+    by true e l below = (n, (omega arith, e))
+    by false e l below = let f = below (omega (arith, l)) in (f .0, (omega (arith, f .1 .0), f .1 .1))
 
 -- a list is its elements in order
 pub ofChips-take : (l : List ℕ) (n : ℕ) → n ≤ length l → ofChips (λ k. getD l k 0) n ≡ take n l

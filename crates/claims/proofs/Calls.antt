@@ -9,45 +9,44 @@ use lib.Dec.{eqb, ltb}
 use lib.ListN.{length, set, length-map}
 use borrow.Author.Tests.{ltb-true, eqb-true}
 use Rattle.cells.specs.Cells.{lineWord, stored}
-use Rattle.line.specs.Visit.{refusalOf}
+use Rattle.line.specs.Visit.{ifAnswered, refusalOf}
 use Rattle.line.specs.declared.Report.{Report}
 use Rattle.line.specs.declared.Outcome.{Outcome}
-use Rattle.line.specs.declared.Outcome.the-variants.{Answered, Refused}
+use Rattle.line.specs.declared.Outcome.the-variants.{Answered, Uncorrectable}
 use Rattle.visits.specs.Runs.{Did, outs, end, upFrom, sumOf}
 use Rattle.memory.specs.Lines.{lineAt, faulted}
-use Rattle.visits.specs.Visits.{Device, visitOf, readBy, resultOf, bufferBy, foundLine, refusedIn}
+use Rattle.visits.specs.Visits.{Device, visitOf, readBy, resultOf, foundLine, refusedIn}
 use Rattle.rank.specs.Calls.{writeOf, writeBy, readOf, patrolOf, patrolBy, patrolled, patrolLines, renewOf, renewBy, faultOf, faultBy}
 use Rattle.record.specs.Record.{renewed}
 use Rattle.code.specs.Lists.{Every}
-use Rattle.claims.specs.Lists.{Call, write, read, patrol, renew, fault, Typed, Seen, refused, done, line, counts, seenBy, deviceCall}
-use Rattle.claims.specs.Plain as P
-use Rattle.claims.specs.Plain.{Line, Plain, whole, hit, answers, visitBy, plainVisit, unless, plainRefusal, visits, plainAccepted, plainBy, plainCall}
+use Rattle.claims.specs.Lists.{Call, write, read, patrol, renew, fault, Typed, Compared, refused, done, line, counts, comparedBy, deviceCall}
+use Rattle.claims.specs.Plain.{Line, Plain, undamaged, withFault, answers, visitBy, plainVisit, unless, plainRefusal, visits, plainAccepted, plainBy, plainCall, plainRefusedBy}
 use Rattle.claims.specs.Premises.{Premise, AtVisits, PremiseBy}
 use Rattle.claims.proofs.Lockstep.{Agree}
-use Rattle.claims.proofs.Related.{Formed, Related, formed-whole, formed-hit, laid-whole, laid-hit, holds-laid}
-use Rattle.claims.proofs.Visits.{reportRefused, visited-outcome, visited-found, visited-still, visits-same, sum-map, below-upFrom}
+use Rattle.claims.proofs.Related.{Formed, Related, formed-undamaged, formed-fault, laid-undamaged, laid-fault, holds-laid}
+use Rattle.claims.proofs.Visits.{reportRefused, visited-outcome, visited-found, visited-related, visits-same, sum-map, below-upFrom}
 use Rattle.claims.proofs.Refusals.{passed, deviceRefusal, refusal-same}
 
 -- a call by its refusal
-unfoldable pub deviceBy : ℕ → Device → Call → Did Device Seen
+unfoldable pub deviceBy : ℕ → Device → Call → Did Device Compared
 deviceBy n d (write l b) =
     let x = writeBy n (d .rank) (d .memory) l b in
-    record { out = seenBy (x .result .refusal) done; now = record { rank = x .result .rank; memory = x .memory } }
+    record { out = comparedBy (x .result .refusal) done; now = record { rank = x .result .rank; memory = x .memory } }
 deviceBy n d (read task l b) =
     let x = readBy n (d .rank) (d .memory) task l b in
-    record { out = seenBy (x .result .refusal) (line (x .buffer)); now = record { rank = x .result .rank; memory = x .memory } }
+    record { out = comparedBy (x .result .refusal) (line (x .buffer)); now = record { rank = x .result .rank; memory = x .memory } }
 deviceBy n d (patrol task first budget) =
     let x = patrolBy n (d .rank) (d .memory) task first budget in
     record {
-      out = seenBy (x .result .refusal) (counts (x .result .visited) (x .result .refused));
+      out = comparedBy (x .result .refusal) (counts (x .result .visited) (x .result .refused));
       now = record { rank = x .result .rank; memory = x .memory };
     }
 deviceBy n d (renew k w) =
     let x = renewBy n (d .rank) k w in
-    record { out = seenBy (x .refusal) done; now = record { rank = x .rank; memory = d .memory } }
+    record { out = comparedBy (x .refusal) done; now = record { rank = x .rank; memory = d .memory } }
 deviceBy n d (fault l k q) =
     let x = faultBy n (d .rank) (d .memory) l k q in
-    record { out = seenBy (x .result .refusal) done; now = record { rank = x .result .rank; memory = x .memory } }
+    record { out = comparedBy (x .result .refusal) done; now = record { rank = x .result .rank; memory = x .memory } }
 
 pub device-by : (d : Device) (c : Call) → deviceCall d c ≡ deviceBy (deviceRefusal d c) d c
 unfolding deviceCall deviceBy writeOf readOf patrolOf renewOf faultOf
@@ -67,49 +66,49 @@ device-refused n d (renew k w) = refl
 device-refused n d (fault l k q) = refl
 
 -- a patrol over the lines ls
-abbrev pub deviceLines : ℕ → Device → List ℕ → Did Device Seen
+abbrev pub deviceLines : ℕ → Device → List ℕ → Did Device Compared
 deviceLines task d ls =
     let vs : List Report = outs (visitOf task) d ls in
     record { out = counts (length vs) (refusedIn vs); now = end (visitOf task) d ls }
 
 module _ (n : ℕ) where
-  abbrev pub Alike : Did Device Seen → Did Plain Seen → Type 0
-  Alike = Agree (Related n) (λ (s : Seen). s) (λ (s : Seen). s)
+  abbrev pub Alike : Did Device Compared → Did Plain Compared → Type 0
+  Alike = Agree (Related n) (λ (s : Compared). s) (λ (s : Compared). s)
 
   -- ---- visits
 
-  -- what is seen of a read, by its visit
-  seen-read : (a : Bool) (p : Plain) (l : ℕ) (found b : List ℕ) → (a ≡ true → found ≡ p .lineAt l .bytes)
-      → seenBy (refusalOf (cond a Answered (Refused 21))) (line (bufferBy (cond a Answered (Refused 21)) found b)) ≡ visitBy a p l .out
-  unfolding refusalOf bufferBy visitBy
-  seen-read true p l found b e = ap line (e refl)
-  seen-read false p l found b e = refl
+  -- what is compared of a read, by its visit
+  compared-read : (a : Bool) (p : Plain) (l : ℕ) (found b : List ℕ) → (a ≡ true → found ≡ p .plainLine l .bytes)
+      → comparedBy (refusalOf (cond a Answered Uncorrectable)) (line (ifAnswered (cond a Answered Uncorrectable) found b)) ≡ visitBy a p l .out
+  unfolding refusalOf visitBy
+  compared-read true p l found b e = ap line (e refl)
+  compared-read false p l found b e = refl
 
-  read-same : (d : Device) (p : Plain) (task l : ℕ) (b : List ℕ) → l < n → Related n d p → Premise (p .lineAt l)
+  read-same : (d : Device) (p : Plain) (task l : ℕ) (b : List ℕ) → l < n → Related n d p → Premise (p .plainLine l)
       → Alike (deviceBy zero d (read task l b)) (plainVisit p l)
   unfolding deviceBy readBy resultOf plainVisit
   read-same d p task l b in-n r h =
       let found : List ℕ = foundLine (lineAt (d .memory) l) (d .rank .«catch_words») in
       record {
         same =
-            ap (λ (o : Outcome). seenBy (refusalOf o) (line (bufferBy o found b))) (visited-outcome n task d p l in-n r h)
-            ∙ seen-read (answers (p .lineAt l)) p l found b (visited-found n task d p l in-n r h);
-        still = visited-still n task d p l in-n r h;
+            ap (λ (o : Outcome). comparedBy (refusalOf o) (line (ifAnswered o found b))) (visited-outcome n task d p l in-n r h)
+            ∙ compared-read (answers (p .plainLine l)) p l found b (visited-found n task d p l in-n r h);
+        now-related = visited-related n task d p l in-n r h;
       }
 
   lines-same : (task : ℕ) (d : Device) (p : Plain) (ls : List ℕ) → Every (λ l. l < n) ls → Related n d p → AtVisits p ls
       → Alike (deviceLines task d ls)
-      (record { out = counts (length (outs plainVisit p ls)) (sumOf P.isRefused (outs plainVisit p ls)); now = end plainVisit p ls })
+      (record { out = counts (length (outs plainVisit p ls)) (sumOf plainRefusedBy (outs plainVisit p ls)); now = end plainVisit p ls })
   unfolding refusedIn
   lines-same task d p ls below r h =
       let w = visits-same n task ls d p below r h in
       let vs : List Report = outs (visitOf task) d ls in
-      let ss : List Seen = outs plainVisit p ls in
+      let ss : List Compared = outs plainVisit p ls in
       record {
         same =
-            ap₂ counts (sym (length-map vs reportRefused) ∙ ap length (w .answers) ∙ length-map ss P.isRefused)
-            (sum-map reportRefused vs ∙ ap (sumOf (λ (k : ℕ). k)) (w .answers) ∙ sym (sum-map P.isRefused ss));
-        still = w .related;
+            ap₂ counts (sym (length-map vs reportRefused) ∙ ap length (w .answers) ∙ length-map ss plainRefusedBy)
+            (sum-map reportRefused vs ∙ ap (sumOf (λ (k : ℕ). k)) (w .answers) ∙ sym (sum-map plainRefusedBy ss));
+        now-related = w .related;
       }
 
   -- ---- accepted calls
@@ -123,9 +122,9 @@ module _ (n : ℕ) where
       let size : length b ≡ 64 = eqb-true (length b) 64 (passed (eqb (length b) 64) 1 0 (e₁ .1) .0) in
       record {
         same = refl;
-        still = record {
+        now-related = record {
           ready = r .ready;
-          holds = holds-laid n (d .memory) p l in-n (r .holds) (stored (lineWord b)) (whole b) (formed-whole b size t) (sym (laid-whole b));
+          holds = holds-laid n (d .memory) p l in-n (r .holds) (stored (lineWord b)) (undamaged b) (formed-undamaged b size t) (sym (laid-undamaged b));
         };
       }
   accepted d p (read task l b) t r e h =
@@ -144,7 +143,7 @@ module _ (n : ℕ) where
   accepted d p (renew k w) t r e h =
       record {
         same = refl;
-        still = record {
+        now-related = record {
           ready = record {
             lines = r .ready .lines;
             enable = r .ready .enable;
@@ -159,15 +158,15 @@ module _ (n : ℕ) where
       let in-n : l < n = subst (λ (j : ℕ). l < j) (r .holds .lines) (ltb-true l (p .lines) (e₁ .0)) in
       let chip : k < 9 = ltb-true k 9 (e₂ .0) in
       let nine : length q ≡ 9 = eqb-true (length q) 9 (passed (eqb (length q) 9) 3 0 (e₂ .1) .0) in
-      let x : Line = p .lineAt l in
+      let x : Line = p .plainLine l in
       let f : Formed x = r .holds .formed l in-n in
       record {
         same = refl;
-        still = record {
+        now-related = record {
           ready = r .ready;
           holds =
-              holds-laid n (d .memory) p l in-n (r .holds) (faulted (lineAt (d .memory) l) k q) (hit x k q) (formed-hit x k q f nine t)
-              (ap (λ (m : List ℕ). faulted m k q) (r .holds .each l in-n) ∙ laid-hit x k q f chip nine);
+              holds-laid n (d .memory) p l in-n (r .holds) (faulted (lineAt (d .memory) l) k q) (withFault x k q) (formed-fault x k q f nine t)
+              (ap (λ (m : List ℕ). faulted m k q) (r .holds .each l in-n) ∙ laid-fault x k q f chip nine);
         };
       }
 
@@ -178,11 +177,11 @@ module _ (n : ℕ) where
       → PremiseBy (plainRefusal (p .lines) c) p c → Alike (deviceCall d c) (plainCall p c)
   unfolding plainCall plainBy
   call-same low high d p c t r h =
-      subst (λ (x : Did Device Seen). Alike x (plainCall p c))
+      subst (λ (x : Did Device Compared). Alike x (plainCall p c))
       (sym (device-by d c ∙ ap (λ (k : ℕ). deviceBy k d c) (refusal-same n low high d p r c)))
       (by (plainRefusal (p .lines) c) refl h)
     where
       by : (k : ℕ) → plainRefusal (p .lines) c ≡ k → PremiseBy k p c → Alike (deviceBy k d c) (plainBy k p c)
       by zero e g = accepted d p c t r e g
       by (suc k) e g =
-          subst (λ (x : Did Device Seen). Alike x (plainBy (suc k) p c)) (sym (device-refused k d c)) (record { same = refl; still = r })
+          subst (λ (x : Did Device Compared). Alike x (plainBy (suc k) p c)) (sym (device-refused k d c)) (record { same = refl; now-related = r })

@@ -10,7 +10,8 @@ use Rattle.code.specs.Code.{isCodeword}
 use Rattle.cells.specs.Chips.{count}
 use Rattle.code.specs.TestLaws.{and-first, and-second}
 use Rattle.cells.specs.ChipLaws.{count-none}
-use Rattle.words.specs.ByteLaws.{Bytes, bytes-cons}
+use Rattle.words.specs.Bytes.{Bytes}
+use Rattle.words.specs.ByteLaws.{bytes-cons}
 use Rattle.code.specs.Lists.{Every}
 use Rattle.claims.specs.Lists.{Call, write, read, patrol, renew, fault, Typed}
 use Rattle.claims.specs.Plain.{Line, Plain, damage, wide, plainVisit, plainRefusal, visits, plainCall}
@@ -41,14 +42,14 @@ premise-holds x e =
 
 abbrev pub visitsHold : Plain → List ℕ → Bool
 visitsHold p [] = true
-visitsHold p (l ∷ ls) = premiseHolds (p .lineAt l) && visitsHold (plainVisit p l .now) ls
+visitsHold p (l ∷ ls) = premiseHolds (p .plainLine l) && visitsHold (plainVisit p l .now) ls
 
 visits-hold : (ls : List ℕ) (p : Plain) → visitsHold p ls ≡ true → AtVisits p ls
 visits-hold [] p e = tt
 visits-hold (l ∷ ls) p e =
     let rest : Bool = visitsHold (plainVisit p l .now) ls in (
-      premise-holds (p .lineAt l) (and-first (premiseHolds (p .lineAt l)) rest e),
-      visits-hold ls (plainVisit p l .now) (and-second (premiseHolds (p .lineAt l)) rest e),
+      premise-holds (p .plainLine l) (and-first (premiseHolds (p .plainLine l)) rest e),
+      visits-hold ls (plainVisit p l .now) (and-second (premiseHolds (p .plainLine l)) rest e),
     )
 
 abbrev pub callHolds : ℕ → Plain → Call → Bool

@@ -8,20 +8,20 @@ use Prim.Native.Nat.{ℕ, zero, suc, _-_, min}
 use lib.Dec.{ltb}
 use lib.ListN.{length}
 use Rattle.cells.specs.Cells.{lineWord, stored}
-use Rattle.line.specs.Visit.{reportOf}
+use Rattle.line.specs.Visit.{ifAnswered, reportOf}
 use Rattle.line.specs.declared.Report.{Report}
 use Rattle.line.specs.declared.Outcome.{Outcome}
-use Rattle.line.specs.declared.Outcome.the-variants.{Answered, Refused}
+use Rattle.line.specs.declared.Outcome.the-variants.{Answered, Unlocated, Uncorrectable}
 use Rattle.visits.specs.Runs.{Did, outs, end, upFrom}
 use Rattle.memory.specs.Lines.{lineAt, withLine, faulted}
-use Rattle.record.specs.Record.{settled, settledBy, renewed}
-use Rattle.refusals.specs.Refusals.{notReady, memoryDiffers, registerDiffers, taskOut, lineOut, bufferOut, refusedIf, firstOf, stateRefusals, writeRefusal, readRefusal, patrolRefusal, renewRefusal, faultRefusal}
+use Rattle.record.specs.Record.{afterAnswer, afterVisit, renewed}
+use Rattle.refusals.specs.Refusals.{notReady, memoryDiffers, registerDiffers, taskOut, lineOut, bufferOut, refusedIf, firstOf, stateRefusals, writeRefusal, readTests, patrolRefusal, renewRefusal, faultRefusal}
 use Rattle.visits.specs.Visits.{Device, visitOf, readBy, resultOf, refusedIn, rewrittenIn}
 use Rattle.rank.specs.Calls.{writeBy, patrolBy, patrolled, patrolLines, renewBy, faultBy, readOf, patrolOf}
-use Rattle.claims.specs.Lists.{Call, write, read, patrol, renew, fault, Seen, refused, counts, deviceCall}
+use Rattle.claims.specs.Lists.{Call, write, read, patrol, renew, fault, Compared, refused, counts, deviceCall}
 use Rattle.claims.specs.Plain.{Plain, unless, plainRefusal, plainAccepted, plainBy, plainCall}
 use Rattle.claims.specs.Claim.{bootedDevice, bootedPlain}
-use Rattle.claims.specs.Tasks.{anyTask, SameButTasks, untotalled, reportedBy, deviceReports, TasksAlike}
+use Rattle.claims.specs.Tasks.{anyTask, SameButTasks, untotalled, reportedBy, deviceReports, AnyTaskAlike}
 use Rattle.claims.proofs.Lockstep.{Agree, Whole, lockstep-free, map-same, outs-changed, end-changed}
 use Rattle.claims.proofs.Refusals.{deviceRefusal}
 use Rattle.claims.proofs.Calls.{deviceBy, device-by, device-refused, deviceLines}
@@ -33,17 +33,18 @@ Same d e = untotalled d ≡ untotalled e
 -- ---- visits
 
 visit-untotalled : (task : ℕ) (d : Device) (l : ℕ) → Same (visitOf task d l .now) (visitOf 0 (untotalled d) l .now)
-unfolding untotalled visitOf settled settledBy
+unfolding untotalled visitOf afterVisit afterAnswer
 visit-untotalled task d l = by (v .outcome)
   where
     v : Report
     v = reportOf (lineAt (d .memory) l) (d .rank .«catch_words»)
 
     by : (o : Outcome)
-        → untotalled (record { rank = settledBy task o v (d .rank); memory = visitOf task d l .now .memory })
-        ≡ untotalled (record { rank = settledBy 0 o v (untotalled d .rank); memory = visitOf task d l .now .memory })
+        → untotalled (record { rank = ifAnswered o (afterAnswer task v (d .rank)) (d .rank); memory = visitOf task d l .now .memory })
+        ≡ untotalled (record { rank = ifAnswered o (afterAnswer 0 v (untotalled d .rank)) (untotalled d .rank); memory = visitOf task d l .now .memory })
     by Answered = refl
-    by (Refused number) = refl
+    by Unlocated = refl
+    by Uncorrectable = refl
 
 -- a visit for one task and a visit for another
 visit-alike : (task other : ℕ) (d e : Device) (l : ℕ) → Same d e
@@ -52,7 +53,7 @@ unfolding untotalled visitOf
 visit-alike task other d e l h =
     record {
       same = ap (λ (x : Device). reportOf (lineAt (x .memory) l) (x .rank .«catch_words»)) h;
-      still =
+      now-related =
           visit-untotalled task d l ∙ ap (λ (x : Device). untotalled (visitOf 0 x l .now)) h ∙ sym (visit-untotalled other e l);
     }
 
@@ -73,7 +74,7 @@ any-out task = by (ltb task 8) refl
     by false e = refl
 
 refusal-any : (d : Device) (c : Call) → deviceRefusal d c ≡ deviceRefusal d (anyTask c)
-unfolding anyTask readRefusal patrolRefusal
+unfolding anyTask readTests patrolRefusal
 refusal-any d (write l b) = refl
 refusal-any d (read task l b) =
     ap
@@ -88,7 +89,7 @@ refusal-any d (fault l k q) = refl
 
 -- no refusal looks at the totals
 refusal-untotalled : (d : Device) (c : Call) → deviceRefusal (untotalled d) c ≡ deviceRefusal d c
-unfolding untotalled writeRefusal readRefusal patrolRefusal renewRefusal faultRefusal notReady memoryDiffers registerDiffers lineOut
+unfolding untotalled writeRefusal readTests patrolRefusal renewRefusal faultRefusal notReady memoryDiffers registerDiffers lineOut
 refusal-untotalled d (write l b) = refl
 refusal-untotalled d (read task l b) = refl
 refusal-untotalled d (patrol task first budget) = refl
@@ -101,8 +102,8 @@ refusal-alike d e c h =
 
 -- ---- calls
 
-abbrev CallsAlike : Did Device Seen → Did Device Seen → Type 0
-CallsAlike = Agree Same (λ (s : Seen). s) (λ (s : Seen). s)
+abbrev CallsAlike : Did Device Compared → Did Device Compared → Type 0
+CallsAlike = Agree Same (λ (s : Compared). s) (λ (s : Compared). s)
 
 lines-alike : (task other : ℕ) (ls : List ℕ) (d e : Device) → Same d e → CallsAlike (deviceLines task d ls) (deviceLines other e ls)
 lines-alike task other ls d e h =
@@ -110,19 +111,19 @@ lines-alike task other ls d e h =
     let vs : List Report = outs (visitOf task) d ls in
     let us : List Report = outs (visitOf other) e ls in
     let same : vs ≡ us = sym (map-same vs) ∙ w .answers ∙ map-same us in
-    record { same = ap (λ (xs : List Report). counts (length xs) (refusedIn xs)) same; still = w .related }
+    record { same = ap (λ (xs : List Report). counts (length xs) (refusedIn xs)) same; now-related = w .related }
 
 accepted-alike : (d e : Device) (c : Call) → Same d e → CallsAlike (deviceBy zero d c) (deviceBy zero e (anyTask c))
 unfolding anyTask deviceBy untotalled visitOf writeBy readBy resultOf patrolBy patrolLines patrolled renewBy renewed faultBy
 accepted-alike d e (write l b) h =
     record {
       same = refl;
-      still = ap (λ (x : Device). record { rank = x .rank; memory = withLine (x .memory) l (stored (lineWord b)) }) h;
+      now-related = ap (λ (x : Device). record { rank = x .rank; memory = withLine (x .memory) l (stored (lineWord b)) }) h;
     }
 accepted-alike d e (read task l b) h =
     record {
       same = ap (λ (x : Device). deviceBy zero x (read 0 l b) .out) h;
-      still = visit-alike task (cond (ltb task 8) 0 task) d e l h .still;
+      now-related = visit-alike task (cond (ltb task 8) 0 task) d e l h .now-related;
     }
 accepted-alike d e (patrol task first budget) h =
     let other : ℕ = cond (ltb task 8) 0 task in
@@ -133,27 +134,27 @@ accepted-alike d e (patrol task first budget) h =
 accepted-alike d e (renew k w) h =
     record {
       same = refl;
-      still = ap (λ (x : Device). record { rank = renewed (x .rank) k w; memory = x .memory }) h;
+      now-related = ap (λ (x : Device). record { rank = renewed (x .rank) k w; memory = x .memory }) h;
     }
 accepted-alike d e (fault l k q) h =
     record {
       same = refl;
-      still = ap (λ (x : Device). record { rank = x .rank; memory = withLine (x .memory) l (faulted (lineAt (x .memory) l) k q) }) h;
+      now-related = ap (λ (x : Device). record { rank = x .rank; memory = withLine (x .memory) l (faulted (lineAt (x .memory) l) k q) }) h;
     }
 
 call-alike : (d e : Device) (c : Call) → Same d e → CallsAlike (deviceCall d c) (deviceCall e (anyTask c))
 call-alike d e c h =
-    subst (λ (x : Did Device Seen). CallsAlike x (deviceCall e (anyTask c)))
+    subst (λ (x : Did Device Compared). CallsAlike x (deviceCall e (anyTask c)))
     (sym (device-by d c ∙ ap (λ (n : ℕ). deviceBy n d c) (refusal-alike d e c h)))
-    (subst (λ (x : Did Device Seen). CallsAlike (deviceBy (deviceRefusal e (anyTask c)) d c) x) (sym (device-by e (anyTask c)))
+    (subst (λ (x : Did Device Compared). CallsAlike (deviceBy (deviceRefusal e (anyTask c)) d c) x) (sym (device-by e (anyTask c)))
     (by (deviceRefusal e (anyTask c))))
   where
     by : (n : ℕ) → CallsAlike (deviceBy n d c) (deviceBy n e (anyTask c))
     by zero = accepted-alike d e c h
     by (suc n) =
-        subst (λ (x : Did Device Seen). CallsAlike x (deviceBy (suc n) e (anyTask c))) (sym (device-refused n d c))
-        (subst (λ (x : Did Device Seen). CallsAlike (record { out = refused (suc n); now = d }) x) (sym (device-refused n e (anyTask c)))
-        (record { same = refl; still = h }))
+        subst (λ (x : Did Device Compared). CallsAlike x (deviceBy (suc n) e (anyTask c))) (sym (device-refused n d c))
+        (subst (λ (x : Did Device Compared). CallsAlike (record { out = refused (suc n); now = d }) x) (sym (device-refused n e (anyTask c)))
+        (record { same = refl; now-related = h }))
 
 -- what a call reports besides
 reported-alike : (d e : Device) (c : Call) → Same d e → reportedBy d c ≡ reportedBy e (anyTask c)
@@ -196,7 +197,7 @@ reported-alike d e (fault l k q) h = refl
 reports-alike : (d e : Device) (c : Call) → Same d e
     → Agree Same (λ (s : List ℕ). s) (λ (s : List ℕ). s) (deviceReports d c) (deviceReports e (anyTask c))
 unfolding deviceReports
-reports-alike d e c h = record { same = reported-alike d e c h; still = call-alike d e c h .still }
+reports-alike d e c h = record { same = reported-alike d e c h; now-related = call-alike d e c h .now-related }
 
 device-reports : (d : Device) (cs : List Call) → outs deviceReports d cs ≡ outs deviceReports d (map anyTask cs)
 device-reports d cs =
@@ -236,19 +237,19 @@ plain-any p (fault l k q) = refl
 plain-outs : (cs : List Call) (p : Plain) → outs plainCall p cs ≡ outs plainCall p (map anyTask cs)
 plain-outs [] p = refl
 plain-outs (c ∷ cs) p =
-    ap (λ (ss : List Seen). plainCall p c .out ∷ ss) (plain-outs cs (plainCall p c .now))
-    ∙ ap (λ (x : Did Plain Seen). x .out ∷ outs plainCall (x .now) (map anyTask cs)) (plain-any p c)
+    ap (λ (ss : List Compared). plainCall p c .out ∷ ss) (plain-outs cs (plainCall p c .now))
+    ∙ ap (λ (x : Did Plain Compared). x .out ∷ outs plainCall (x .now) (map anyTask cs)) (plain-any p c)
 
 plain-end : (cs : List Call) (p : Plain) → end plainCall p cs ≡ end plainCall p (map anyTask cs)
 plain-end [] p = refl
 plain-end (c ∷ cs) p =
-    plain-end cs (plainCall p c .now) ∙ ap (λ (x : Did Plain Seen). end plainCall (x .now) (map anyTask cs)) (plain-any p c)
+    plain-end cs (plainCall p c .now) ∙ ap (λ (x : Did Plain Compared). end plainCall (x .now) (map anyTask cs)) (plain-any p c)
 
 -- ---- lists
 
 module _ (d : Device) (cs : List Call) where
-  whole : Whole Same (λ (s : Seen). s) (λ (s : Seen). s) deviceCall (λ e c. deviceCall e (anyTask c)) d d cs
-  whole = lockstep-free Same (λ (s : Seen). s) (λ (s : Seen). s) deviceCall (λ e c. deviceCall e (anyTask c)) call-alike cs d d refl
+  whole : Whole Same (λ (s : Compared). s) (λ (s : Compared). s) deviceCall (λ e c. deviceCall e (anyTask c)) d d cs
+  whole = lockstep-free Same (λ (s : Compared). s) (λ (s : Compared). s) deviceCall (λ e c. deviceCall e (anyTask c)) call-alike cs d d refl
 
   device-outs : outs deviceCall d cs ≡ outs deviceCall d (map anyTask cs)
   device-outs =
@@ -267,7 +268,7 @@ device-alike d cs ds h = (
 )
 
 -- and from a boot: the same refusals, lines and counts, the same memory and, but for the totals, the same record; and so the plain memory's
-pub tasks-alike : (m cws : List ℕ) (cs ds : List Call) → SameButTasks cs ds → TasksAlike m cws cs ds
+pub tasks-alike : AnyTaskAlike
 tasks-alike m cws cs ds h =
     let x = device-alike (bootedDevice m cws) cs ds h in
     let p : Plain = bootedPlain m in

@@ -5,27 +5,27 @@ use mathlib.Core.Path.{_≡_, refl, sym, ap, ap₂, _∙_, subst}
 use mathlib.Core.Bool.{Bool, true, false, cond}
 use mathlib.Core.List.{List, [], _∷_}
 use Prim.Native.Nat.{ℕ, zero, suc, _+_, _<_, _≤_, min, zero-le}
+use native.Mathlib.Nat.{add-zero}
 use native.Mathlib.Omega.{arith}
 use lib.Count.{ones}
 use lib.Dec.{eqb}
 use lib.ListN.{length, getD, replicate, getD-replicate}
 use borrow.Author.Tests.{eqb-true, eqb-false, ne-eqb}
-use Rattle.line.specs.Visit.{outcomeOf, reportOf, refusalOf}
-use Rattle.line.specs.VisitLaws.{visit-answered}
+use Rattle.line.specs.Visit.{outcomeOf, ifAnswered, reportOf, refusalOf}
 use Rattle.line.specs.declared.Report.{Report}
 use Rattle.line.specs.declared.Outcome.{Outcome}
-use Rattle.line.specs.declared.Outcome.the-variants.{Answered, Refused}
+use Rattle.line.specs.declared.Outcome.the-variants.{Answered, Unlocated, Uncorrectable}
 use Rattle.visits.specs.Runs.{outs, end, upFrom, sumOf}
 use Rattle.memory.specs.Lines.{lineAt}
-use Rattle.record.specs.Record.{totalLimit, fresh, booted, counted, settled, settledBy, renewed}
+use Rattle.record.specs.Record.{totalLimit, fresh, booted, counted, afterAnswer, afterVisit, renewed}
 use Rattle.record.specs.RecordLaws.{length-counted, counted-own, counted-other}
-use Rattle.refusals.specs.Refusals.{bootRefusal, writeRefusal, readRefusal, patrolRefusal, renewRefusal, faultRefusal}
+use Rattle.refusals.specs.Refusals.{bootRefusal, writeRefusal, readTests, patrolRefusal, renewRefusal, faultRefusal}
 use Rattle.refusals.specs.RefusalLaws.{read-passed, patrol-passed}
-use Rattle.visits.specs.Visits.{Device, visitOf, isRefused, rewrittenBy, rewrittenIn, resultOf, readBy}
+use Rattle.visits.specs.Visits.{Device, visitOf, rewrittenBy, rewrittenIn, resultOf, readBy}
 use Rattle.rank.specs.Calls.{bootBy, bootOf, writeBy, writeOf, readOf, patrolled, patrolLines, patrolBy, patrolOf, renewBy, renewOf, faultBy, faultOf}
 use Rattle.claims.specs.Lists.{Call, write, read, patrol, renew, fault, deviceCall}
 use Rattle.claims.specs.Claim.{bootedDevice}
-use Rattle.claims.specs.Tasks.{rewritesBy, rewrites, names, rewritesFor, sumAlong, tasks, totalOf, after, allRewritten, rewrittenFor, Counted}
+use Rattle.claims.specs.Tasks.{rewritesBy, rewrites, names, forTask, sumAlong, tasks, totalOf, after, allRewritten, rewrittenFor, TotalsCounted}
 
 -- ---- one total
 
@@ -62,6 +62,25 @@ cond-add : (b : Bool) (x y : ℕ) → cond b x 0 + cond b y 0 ≡ cond b (x + y)
 cond-add true x y = refl
 cond-add false x y = refl
 
+-- ---- the words that a read rewrites
+
+-- by the outcome of its visit
+read-is : (o : Outcome) (flagged : ℕ) → rewritesBy (refusalOf o) flagged ≡ rewrittenBy o flagged
+unfolding refusalOf
+read-is Answered flagged = refl
+read-is Unlocated flagged = refl
+read-is Uncorrectable flagged = refl
+
+-- an accepted read's are those of a visit to its line
+pub read-rewrites : (d : Device) (task l : ℕ) (b : List ℕ)
+    → rewritesBy (readBy 0 (d .rank) (d .memory) task l b .result .refusal) (readBy 0 (d .rank) (d .memory) task l b .result .flagged)
+    ≡ rewrittenIn (outs (visitOf task) d (l ∷ []))
+unfolding readBy resultOf visitOf reportOf rewrittenIn
+read-rewrites d task l b =
+    let bytes : List ℕ = lineAt (d .memory) l in
+    let cws : List ℕ = d .rank .«catch_words» in
+    read-is (outcomeOf bytes cws) _ ∙ sym (add-zero _)
+
 module _ (t : ℕ) (below : t < 8) (task : ℕ) where
   -- what n more repairs for the task are for task t
   abbrev part : ℕ → ℕ
@@ -88,19 +107,24 @@ module _ (t : ℕ) (below : t < 8) (task : ℕ) where
 
   visit-grown : (d : Device) (l : ℕ) → Fit t d
       → Grown t (part (rewrittenBy (visitOf task d l .out .outcome) (visitOf task d l .out .flagged))) d (visitOf task d l .now)
-  unfolding visitOf settled settledBy rewrittenBy
+  unfolding visitOf afterVisit afterAnswer
   visit-grown d l f = by (v .outcome)
     where
       v : Report
       v = reportOf (lineAt (d .memory) l) (d .rank .«catch_words»)
 
-      by : (o : Outcome)
-          → Grown t (part (rewrittenBy o (v .flagged))) d
-          (record { rank = settledBy task o v (d .rank); memory = visitOf task d l .now .memory })
-      by Answered = counted-grown (ones (v .flagged)) d _ f refl
-      by (Refused number) =
+      -- a refused visit leaves the totals
+      kept : Grown t (part 0) d (record { rank = d .rank; memory = visitOf task d l .now .memory })
+      kept =
           let e : Device = record { rank = d .rank; memory = visitOf task d l .now .memory } in
           subst (λ (n : ℕ). Grown t n d e) (sym (cond-none (eqb task t))) (grown-kept t d e f refl)
+
+      by : (o : Outcome)
+          → Grown t (part (rewrittenBy o (v .flagged))) d
+          (record { rank = ifAnswered o (afterAnswer task v (d .rank)) (d .rank); memory = visitOf task d l .now .memory })
+      by Answered = counted-grown (ones (v .flagged)) d _ f refl
+      by Unlocated = kept
+      by Uncorrectable = kept
 
   visits-grown : (ls : List ℕ) (d : Device) → Fit t d → Grown t (part (rewrittenIn (outs (visitOf task) d ls))) d (end (visitOf task) d ls)
   unfolding rewrittenIn
@@ -113,27 +137,15 @@ module _ (t : ℕ) (below : t < 8) (task : ℕ) where
 
   -- ---- calls that visit
 
-  -- a read rewrites what its visit does
-  read-is : (o : Outcome) (flagged : ℕ) → (refusalOf o ≡ 0 → o ≡ Answered) → rewritesBy (refusalOf o) flagged ≡ rewrittenBy o flagged
-  unfolding refusalOf rewrittenBy isRefused
-  read-is Answered flagged h = refl
-  read-is (Refused zero) flagged h =
-      let no : isRefused (Refused 0) ≡ isRefused Answered = ap isRefused (h refl) in
-      absurd (omega (arith, no))
-  read-is (Refused (suc n)) flagged h = refl
-
   read-grown : (n : ℕ) (d : Device) (l : ℕ) (b : List ℕ) → Fit t d
       → Grown t
       (part
       (rewritesBy (readBy n (d .rank) (d .memory) task l b .result .refusal) (readBy n (d .rank) (d .memory) task l b .result .flagged)))
       d
       (record { rank = readBy n (d .rank) (d .memory) task l b .result .rank; memory = readBy n (d .rank) (d .memory) task l b .memory })
-  unfolding readBy resultOf visitOf reportOf
+  unfolding readBy resultOf
   read-grown zero d l b f =
-      let bytes : List ℕ = lineAt (d .memory) l in
-      let cws : List ℕ = d .rank .«catch_words» in
-      subst (λ (k : ℕ). Grown t (part k) d (visitOf task d l .now)) (sym (read-is (outcomeOf bytes cws) _ (visit-answered bytes cws)))
-      (visit-grown d l f)
+      subst (λ (k : ℕ). Grown t (part k) d (visitOf task d l .now)) (sym (read-rewrites d task l b)) (visits-grown (l ∷ []) d f)
   read-grown (suc n) d l b f = subst (λ (k : ℕ). Grown t k d d) (sym (cond-none (eqb task t))) (grown-kept t d d f refl)
 
   patrol-grown : (n : ℕ) (d : Device) (first budget : ℕ) → Fit t d
@@ -149,8 +161,8 @@ module _ (t : ℕ) (below : t < 8) (task : ℕ) where
 -- ---- every call, and a list of them
 
 module _ (t : ℕ) (below : t < 8) where
-  call-grown : (d : Device) (c : Call) → Fit t d → Grown t (rewritesFor t d c) d (deviceCall d c .now)
-  unfolding rewritesFor names rewrites deviceCall writeOf readOf patrolOf renewOf faultOf writeBy renewBy renewed faultBy
+  call-grown : (d : Device) (c : Call) → Fit t d → Grown t (forTask t rewrites d c) d (deviceCall d c .now)
+  unfolding forTask names rewrites deviceCall writeOf readOf patrolOf renewOf faultOf writeBy renewBy renewed faultBy
   call-grown d (write l b) f = by (writeRefusal (d .rank) (d .memory) l b)
     where
       by : (n : ℕ)
@@ -158,7 +170,7 @@ module _ (t : ℕ) (below : t < 8) where
           (record { rank = writeBy n (d .rank) (d .memory) l b .result .rank; memory = writeBy n (d .rank) (d .memory) l b .memory })
       by zero = grown-kept t d _ f refl
       by (suc n) = grown-kept t d _ f refl
-  call-grown d (read task l b) f = read-grown t below task (readRefusal (d .rank) (d .memory) task l b) d l b f
+  call-grown d (read task l b) f = read-grown t below task (readTests (d .rank) (d .memory) task l b) d l b f
   call-grown d (patrol task first budget) f = patrol-grown t below task (patrolRefusal (d .rank) (d .memory) task first) d first budget f
   call-grown d (renew k w) f = by (renewRefusal (d .rank) k)
     where
@@ -174,25 +186,28 @@ module _ (t : ℕ) (below : t < 8) where
       by (suc n) = grown-kept t d _ f refl
 
   -- from any device with eight totals: task t's grows by the words rewritten for it, whatever the others do
-  pub calls-grown : (cs : List Call) (d : Device) → Fit t d → Grown t (sumAlong (rewritesFor t) d cs) d (end deviceCall d cs)
+  pub calls-grown : (cs : List Call) (d : Device) → Fit t d → Grown t (sumAlong (forTask t rewrites) d cs) d (end deviceCall d cs)
   calls-grown [] d f = grown-kept t d d f refl
   calls-grown (c ∷ cs) d f =
       let e : Device = deviceCall d c .now in
       let g = call-grown d c f in
       grown-both t _ _ d e _ g (calls-grown cs e (grown-fit t _ d e g))
 
--- ---- sums over the eight
+-- ---- sums
 
-sum-ext : (f g : ℕ → ℕ) (n a : ℕ) → ((t : ℕ) → t < a + n → f t ≡ g t) → sumOf f (upFrom a n) ≡ sumOf g (upFrom a n)
+-- terms that are the same
+pub sum-ext : (f g : ℕ → ℕ) (n a : ℕ) → ((t : ℕ) → t < a + n → f t ≡ g t) → sumOf f (upFrom a n) ≡ sumOf g (upFrom a n)
 sum-ext f g zero a h = refl
 sum-ext f g (suc n) a h =
     ap₂ (λ (x y : ℕ). x + y) (h a (omega arith)) (sum-ext f g n (suc a) (λ t l. h t (omega arith)))
 
+-- terms that are no more
 sum-most : (f g : ℕ → ℕ) (n a : ℕ) → ((t : ℕ) → t < a + n → f t ≤ g t) → sumOf f (upFrom a n) ≤ sumOf g (upFrom a n)
 sum-most f g zero a h = omega arith
 sum-most f g (suc n) a h = omega (arith, h a (omega arith), sum-most f g n (suc a) (λ t l. h t (omega arith)))
 
-sum-add : (f g : ℕ → ℕ) (ts : List ℕ) → sumOf (λ t. f t + g t) ts ≡ sumOf f ts + sumOf g ts
+-- the sum of sums
+pub sum-add : (f g : ℕ → ℕ) (ts : List ℕ) → sumOf (λ t. f t + g t) ts ≡ sumOf f ts + sumOf g ts
 sum-add f g [] = refl
 sum-add f g (t ∷ ts) = omega (arith, sum-add f g ts)
 
@@ -202,12 +217,13 @@ sum-none task x zero a h = refl
 sum-none task x (suc n) a h =
     ap₂ (λ (b : Bool) (y : ℕ). cond b x 0 + y) (ne-eqb task a (λ e. omega arith)) (sum-none task x n (suc a) (omega arith))
 
-sum-nothing : (task : ℕ) (ts : List ℕ) → _≡_ {A = ℕ} (sumOf (λ t. cond (eqb task t) 0 0) ts) 0
-sum-nothing task [] = refl
-sum-nothing task (t ∷ ts) = ap₂ (λ (x y : ℕ). x + y) (cond-none (eqb task t)) (sum-nothing task ts)
+-- terms that are nothing
+pub sum-zero : (f : ℕ → ℕ) (ts : List ℕ) → ((t : ℕ) → f t ≡ 0) → sumOf f ts ≡ 0
+sum-zero f [] h = refl
+sum-zero f (t ∷ ts) h = ap₂ (λ (x y : ℕ). x + y) (h t) (sum-zero f ts h)
 
--- a sum in which only the task's own term counts
-sum-own : (task x n a : ℕ) → a ≤ task → task < a + n → sumOf (λ t. cond (eqb task t) x 0) (upFrom a n) ≡ x
+-- a sum in which only one term counts, the task's own
+pub sum-own : (task x n a : ℕ) → a ≤ task → task < a + n → sumOf (λ t. cond (eqb task t) x 0) (upFrom a n) ≡ x
 sum-own task x zero a low high = absurd (omega arith)
 sum-own task x (suc n) a low high = by (eqb task a) refl (λ more. sum-own task x n (suc a) more (omega (arith, high)))
   where
@@ -225,29 +241,29 @@ abbrev Parted : ℕ → ℕ → Type 0
 Parted task x = sumOf (λ t. cond (eqb task t) x 0) tasks ≡ x
 
 -- of one call: a call that names none of the eight is refused and rewrites nothing
-call-parts : (d : Device) (c : Call) → sumOf (λ t. rewritesFor t d c) tasks ≡ rewrites d c
-unfolding rewritesFor names rewrites readOf readBy patrolOf patrolBy
+call-parts : (d : Device) (c : Call) → sumOf (λ t. forTask t rewrites d c) tasks ≡ rewrites d c
+unfolding forTask names rewrites readOf readBy patrolOf patrolBy
 call-parts d (write l b) = refl
-call-parts d (read task l b) = by (readRefusal (d .rank) (d .memory) task l b) refl
+call-parts d (read task l b) = by (readTests (d .rank) (d .memory) task l b) refl
   where
-    by : (n : ℕ) → readRefusal (d .rank) (d .memory) task l b ≡ n
+    by : (n : ℕ) → readTests (d .rank) (d .memory) task l b ≡ n
         → Parted task
         (rewritesBy (readBy n (d .rank) (d .memory) task l b .result .refusal) (readBy n (d .rank) (d .memory) task l b .result .flagged))
     by zero e = sum-own task _ 8 0 zero-le (read-passed (d .rank) (d .memory) task l b e .1)
-    by (suc n) e = sum-nothing task tasks
+    by (suc n) e = sum-zero _ tasks (λ t. cond-none (eqb task t))
 call-parts d (patrol task first budget) = by (patrolRefusal (d .rank) (d .memory) task first) refl
   where
     by : (n : ℕ) → patrolRefusal (d .rank) (d .memory) task first ≡ n
         → Parted task (patrolBy n (d .rank) (d .memory) task first budget .result .rewritten)
     by zero e = sum-own task _ 8 0 zero-le (patrol-passed (d .rank) (d .memory) task first e .1)
-    by (suc n) e = sum-nothing task tasks
+    by (suc n) e = sum-zero _ tasks (λ t. cond-none (eqb task t))
 call-parts d (renew k w) = refl
 call-parts d (fault l k q) = refl
 
-calls-parts : (cs : List Call) (d : Device) → sumOf (λ t. sumAlong (rewritesFor t) d cs) tasks ≡ sumAlong rewrites d cs
+calls-parts : (cs : List Call) (d : Device) → sumOf (λ t. sumAlong (forTask t rewrites) d cs) tasks ≡ sumAlong rewrites d cs
 calls-parts [] d = refl
 calls-parts (c ∷ cs) d =
-    sum-add (λ t. rewritesFor t d c) (λ t. sumAlong (rewritesFor t) (deviceCall d c .now) cs) tasks
+    sum-add (λ t. forTask t rewrites d c) (λ t. sumAlong (forTask t rewrites) (deviceCall d c .now) cs) tasks
     ∙ ap₂ (λ (x y : ℕ). x + y) (call-parts d c) (calls-parts cs (deviceCall d c .now))
 
 -- ---- from a boot
@@ -261,13 +277,13 @@ boot-totals m cws = by (bootRefusal m cws)
     by (suc n) = refl
 
 -- every list of calls, with no premise
-pub totals-counted : (m cws : List ℕ) (cs : List Call) → Counted m cws cs
+pub totals-counted : TotalsCounted
 unfolding after allRewritten rewrittenFor totalOf
 totals-counted m cws cs =
     record {
       eight = grown 0 (omega arith) .eight;
       each = each;
-      sum = λ goes. sum-ext (λ t. totalOf t end-device) words 8 0 (λ t l. exact t l (goes t l)) ∙ calls-parts cs d;
+      sum = λ below-limit. sum-ext (λ t. totalOf t end-device) words 8 0 (λ t l. exact t l (below-limit t l)) ∙ calls-parts cs d;
       others = exact;
       most = omega (arith, calls-parts cs d, sum-most (λ t. totalOf t end-device) words 8 0 (λ t l. omega (arith, each t l)));
     }
@@ -279,7 +295,7 @@ totals-counted m cws cs =
     end-device = end deviceCall d cs
 
     words : ℕ → ℕ
-    words t = sumAlong (rewritesFor t) d cs
+    words t = sumAlong (forTask t rewrites) d cs
 
     start : (t : ℕ) → t < 8 → totalOf t d ≡ 0
     start t l = ap (λ (rs : List ℕ). getD rs t 0) (boot-totals m cws) ∙ getD-replicate 8 t 0 0 l
@@ -292,4 +308,4 @@ totals-counted m cws cs =
     each t l = omega (arith, grown t l .total, start t l)
 
     exact : (t : ℕ) → t < 8 → totalOf t end-device < totalLimit → totalOf t end-device ≡ words t
-    exact t l goes = omega (arith, each t l, goes)
+    exact t l below-limit = omega (arith, each t l, below-limit)

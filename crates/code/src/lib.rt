@@ -15,7 +15,7 @@ pub enum Status {
     Beyond,
 }
 
-// Nine bytes after mending: the word and the check byte, and what is told of them.
+// Nine bytes after mending: the word and the check byte, and their status.
 pub struct Mending {
     pub word: u64,
     pub check: u8,

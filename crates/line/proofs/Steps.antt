@@ -1,5 +1,6 @@
 -- What the steps of a visit come to, as the code makes them. m stands for the line's bytes, cws for the catch-words. Assumes nothing.
 use mathlib.Core.Path.{_≡_, refl, sym, ap, ap₂, _∙_, subst⁻¹}
+use mathlib.Core.Logic.{_≢_}
 use mathlib.Core.Bool.{Bool, true, false, cond, true≢false}
 use mathlib.Core.List.{List}
 use Prim.Native.Nat.{ℕ, zero, suc, _+_, _-_, _%_, _^_, _<_, _≤_}
@@ -18,14 +19,14 @@ use Rattle.cells.specs.Chips.{joined, xorAll, bit, count, mask, inMask, AtPlace
 use Rattle.cells.specs.ChipLaws.{joined-ext, xorAll-but, count-none, count-one, count-le, ones-mask, mask-count, count-mask}
 use Rattle.cells.specs.MaskLaws.{no-ones, TakenOff}
 use Rattle.cells.specs.Cells.{cellAt, chipAt, codeword}
-use Rattle.passes.specs.Passes.{catchWord, passOne, passThree, toldAt, isFlaggedBeyond, beyondChips, isCandidate, follows, isFlagged, isCollision, flaggedChips, xorOthers}
-use Rattle.line.specs.Visit.{thirdOutcome, thirdWord, mustCancel, outcomeBy, outcomeOf, wordBy, wordOf, withWords, writtenBack, bytesBy, bytesAfter, passesOf, reportOf}
+use Rattle.passes.specs.Passes.{catchWord, passOne, passThree, chipStatus, isFlaggedBeyond, beyondChips, isCandidate, sentComplement, isFlagged, isCollision, flaggedChips, xorOthers}
+use Rattle.line.specs.Visit.{thirdOutcome, thirdWord, mustCancel, outcomeBy, outcomeOf, wordBy, wordOf, ifAnswered, withWords, writtenBack, bytesAfter, passesOf, reportOf}
 use Rattle.line.specs.Found.{ChecksIfAnswered}
 use Rattle.passes.specs.PassLaws.{third-sent, flagged-beyond-is}
 use Rattle.cells.proofs.Loops.{pending-all, pending-lowest, member-is}
 use Rattle.line.specs.declared.Report.{Report}
 use Rattle.line.specs.declared.Outcome.{Outcome}
-use Rattle.line.specs.declared.Outcome.the-variants.{Answered, Refused}
+use Rattle.line.specs.declared.Outcome.the-variants.{Answered, Unlocated, Uncorrectable}
 use Rattle.passes.proofs.Masks.{collisions-rest}
 
 module _ (m cws : List ℕ) where
@@ -41,7 +42,7 @@ module _ (m cws : List ℕ) where
       some (suc n) h = omega arith
 
       few : count (isFlagged m cws) 9 ≤ count (isCandidate m cws) 9
-      few = count-le (isFlagged m cws) (isCandidate m cws) 9 (λ k l. and-first (isCandidate m cws k) (follows m cws k))
+      few = count-le (isFlagged m cws) (isCandidate m cws) 9 (λ k l. and-first (isCandidate m cws k) (sentComplement m cws k))
 
       by : (b : Bool) → cond b 3 2 ≡ 2 + bit b
       by true = refl
@@ -98,12 +99,8 @@ not-that true h = absurd (h refl)
 not-that false h = refl
 
 -- a refusal is no answer
-refused : {n : ℕ} → Refused n ≡ Answered → ⊥
-refused e = true≢false (sym (ap is-answer e))
-  where
-    is-answer : Outcome → Bool
-    is-answer Answered = true
-    is-answer (Refused n) = false
+refused : Uncorrectable ≡ Answered → ⊥
+refused e = true≢false (sym (ap (λ (o : Outcome). ifAnswered o true false) e))
 
 -- an outcome, the flagged chips' words and their check bytes are those of steps 3 to 5
 abbrev pub Found : List ℕ → List ℕ → Outcome → List ℕ → List ℕ → Type 0
@@ -115,9 +112,13 @@ Found m cws o ws cs =
 found-as : (m cws : List ℕ) {o : Outcome} {ws cs ws' cs' : List ℕ} → ws' ≡ ws → cs' ≡ cs → Found m cws o ws cs → Found m cws o ws' cs'
 found-as m cws {o} {ws} {cs} {ws'} {cs'} ew ec h = subst⁻¹ (λ (t : List ℕ). Found m cws o t cs') ew (subst⁻¹ (Found m cws o ws) ec h)
 
+-- the lowest chip of a mask that has some
+pub lowest-some : (p : ℕ → Bool) {f k n : ℕ} → f ≡ mask p 9 → ones f ≡ n → n ≢ 0 → k ≡ trailingZeros 32 f → TakenOff f k (f - 2 ^ trailingZeros 32 f)
+lowest-some p ef e some ek = pending-lowest (pending-all p ef) (λ z. some (sym e ∙ ap ones z ∙ no-ones)) ek refl
+
 -- the one chip of a mask
 pub lowest-one : (p : ℕ → Bool) {f k : ℕ} → f ≡ mask p 9 → ones f ≡ 1 → k ≡ trailingZeros 32 f → TakenOff f k (f - 2 ^ trailingZeros 32 f)
-lowest-one p ef e ek = pending-lowest (pending-all p ef) (λ z. omega (arith, e, ap ones z, no-ones)) ek refl
+lowest-one p ef e ek = lowest-some p ef e (λ z. omega arith) ek
 
 only-one : (p : ℕ → Bool) {f k t : ℕ} → f ≡ mask p 9 → ones f ≡ 1 → TakenOff f k t → (j : ℕ) → j < 9 → p j ≡ true → j ≡ k
 only-one p {f} {k} ef e h j l t =
@@ -138,7 +139,7 @@ module _ (m cws : List ℕ) (f : ℕ) (ef : f ≡ mask (isFlagged m cws) 9) wher
       unfolding flaggedChips
       none k l t = absurd (true≢false (sym t ∙ count-none (isFlagged m cws) 9 zero-chips k l))
 
-      pub none-found : {o : Outcome} → o ≡ cond (eqb p 0) Answered (Refused 20) → (ws cs : List ℕ) → length ws ≡ 9 → length cs ≡ 9 → Found m cws o ws cs
+      pub none-found : {o : Outcome} → o ≡ cond (eqb p 0) Answered Unlocated → (ws cs : List ℕ) → length ws ≡ 9 → length cs ≡ 9 → Found m cws o ws cs
       unfolding outcomeOf outcomeBy mustCancel
       none-found q ws cs n i =
           (rw (zero-chips, ← ep) q, (record { at = λ k l t. none k l t }, ((λ a. record { at = λ k l t. none k l t }), (n, i))))
@@ -208,16 +209,16 @@ module _ (m cws : List ℕ) (f : ℕ) (ef : f ≡ mask (isFlagged m cws) 9) wher
 
       -- the check byte of a chip that is not beyond mending
       checked : (k : ℕ) → k < 9 → isFlagged m cws k ≡ true → isFlaggedBeyond m cws k ≡ false → getD cs k 0 ≡ checkOf (getD ws k 0)
-      unfolding toldAt
+      unfolding chipStatus
       checked k l t b =
           ec .at k l t ∙ mended-check (cellAt m k) (sym (flagged-beyond-is m cws k) ∙ b) ∙ ap checkOf (sym (ew .at k l t))
 
       -- none beyond mending
-      pub mended-found : ones x ≡ 0 → {o : Outcome} → o ≡ cond (eqb r 0) Answered (Refused 21) → Found m cws o ws cs
+      pub mended-found : ones x ≡ 0 → {o : Outcome} → o ≡ cond (eqb r 0) Answered Uncorrectable → Found m cws o ws cs
       unfolding thirdOutcome thirdWord mustCancel beyondChips
       mended-found e eo =
           let none : beyondChips m cws ≡ 0 = sym beyond-ones ∙ e in (
-            eo ∙ ap (λ (y : ℕ). cond (eqb y 0) Answered (Refused 21)) er ∙ several-outcome 0 none,
+            eo ∙ ap (λ (y : ℕ). cond (eqb y 0) Answered Uncorrectable) er ∙ several-outcome 0 none,
             (
               record { at = λ k l t. sent k l t ∙ several-word 0 none k },
               ((λ a. record { at = λ k l t. checked k l t (count-none (isFlaggedBeyond m cws) 9 none k l) }), (n, q)),
@@ -254,10 +255,10 @@ module _ (m cws : List ℕ) (f : ℕ) (ef : f ≡ mask (isFlagged m cws) 9) wher
           )
 
       -- two or more beyond mending
-      pub beyond-found : (ones x ≡ 0 → ⊥) → (ones x ≡ 1 → ⊥) → Found m cws (Refused 21) ws cs
+      pub beyond-found : (ones x ≡ 0 → ⊥) → (ones x ≡ 1 → ⊥) → Found m cws Uncorrectable ws cs
       unfolding thirdOutcome thirdWord
       beyond-found n0 n1 =
-          from-two (λ i. beyondChips m cws ≡ i → Found m cws (Refused 21) ws cs) (beyondChips m cws) (λ e. n0 (beyond-ones ∙ e))
+          from-two (λ i. beyondChips m cws ≡ i → Found m cws Uncorrectable ws cs) (beyondChips m cws) (λ e. n0 (beyond-ones ∙ e))
           (λ e. n1 (beyond-ones ∙ e))
           (λ i e. (several-outcome (suc (suc i)) e, (record { at = λ k l t. sent k l t ∙ several-word (suc (suc i)) e k }, ((λ a. absurd (refused a)), (n, q)))))
           refl
@@ -278,20 +279,15 @@ module _ (m cws : List ℕ) where
     pub full-report : {c n : ℕ} → c ≡ mask (isCandidate m cws) 9 → n ≡ passesOf m cws → report o n f (bitAnd c (bitXor f 511)) ≡ reportOf m cws
     full-report ec en = reported eo en ef (ap₂ (λ (x y : ℕ). bitAnd x (bitXor y 511)) ec ef ∙ collisions-rest m cws)
 
-    -- a refused line's bytes stay
-    pub refused-bytes : {n : ℕ} → o ≡ Refused n → m ≡ bytesAfter m cws
-    unfolding bytesAfter bytesBy
-    refused-bytes e = rw (sym eo ∙ e)
-
-    -- an answered line is written back
-    pub answered-bytes : o ≡ Answered → (ws : List ℕ) → {t : List ℕ} → AtPlaces (isFlagged m cws) (wordOf m cws) ws 9
-        → t ≡ joined (λ k. cond (inMask f k) (codeword (getD ws k 0)) (chipAt m k)) 9 → t ≡ bytesAfter m cws
-    unfolding bytesAfter bytesBy writtenBack withWords
-    answered-bytes e ws {t} q r =
-        r ∙ joined-ext _ _ 9
+    -- only an answered line is written back
+    pub written-bytes : (ws : List ℕ) → {t : List ℕ} → AtPlaces (isFlagged m cws) (wordOf m cws) ws 9
+        → t ≡ ifAnswered o (joined (λ k. cond (inMask f k) (codeword (getD ws k 0)) (chipAt m k)) 9) m → t ≡ bytesAfter m cws
+    unfolding bytesAfter writtenBack withWords
+    written-bytes ws {t} q r =
+        r ∙ ap₂ (λ (u : Outcome) (bs : List ℕ). ifAnswered u bs m) eo
+        (joined-ext _ _ 9
         (λ k l.
-        ap (λ (b : Bool). cond b (codeword (getD ws k 0)) (chipAt m k)) (member-is (isFlagged m cws) ef l refl) ∙ laid k l (isFlagged m cws k) refl)
-        ∙ ap (λ (u : Outcome). bytesBy u m cws) (sym e ∙ eo)
+        ap (λ (b : Bool). cond b (codeword (getD ws k 0)) (chipAt m k)) (member-is (isFlagged m cws) ef l refl) ∙ laid k l (isFlagged m cws k) refl))
       where
         laid : (k : ℕ) → k < 9 → (b : Bool) → isFlagged m cws k ≡ b
             → cond b (codeword (getD ws k 0)) (chipAt m k) ≡ cond b (codeword (wordOf m cws k)) (chipAt m k)

@@ -1,4 +1,4 @@
--- A visit to a clean line: it is answered in one pass, flags no chip, meets no collision and leaves the line's bytes.
+-- A visit to a clean line: it is answered in one pass, flags no chip, has no collision and leaves the line's bytes.
 -- Assumes nothing.
 use mathlib.Core.Path.{_≡_, sym, ap, ap₂, _∙_}
 use mathlib.Core.Bool.{Bool, true, false, not, _&&_, cond}
@@ -10,12 +10,12 @@ use Rattle.cells.specs.Chips.{bit, count, mask}
 use Rattle.cells.specs.ChipLaws.{joined-ext, count-none, mask-zero, mask-count}
 use Rattle.cells.specs.Cells.{chipAt}
 use Rattle.cells.specs.CellLaws.{chips-line}
-use Rattle.passes.specs.Passes.{isCandidate, follows, isFlagged, isCollision, flaggedChips}
+use Rattle.passes.specs.Passes.{isCandidate, sentComplement, isFlagged, isCollision, flaggedChips}
 use Rattle.passes.specs.Scan.{isClean}
 use Rattle.passes.specs.ScanLaws.{clean-none, clean-parity}
-use Rattle.line.specs.Visit.{mustCancel, outcomeBy, outcomeOf, withWords, writtenBack, bytesBy, bytesAfter, passesOf, reportOf}
+use Rattle.line.specs.Visit.{mustCancel, outcomeBy, outcomeOf, ifAnswered, withWords, writtenBack, bytesAfter, passesOf, reportOf}
 use Rattle.line.specs.declared.Outcome.{Outcome}
-use Rattle.line.specs.declared.Outcome.the-variants.{Answered, Refused}
+use Rattle.line.specs.declared.Outcome.the-variants.{Answered, Unlocated}
 
 module _ (m cws : List ℕ) (clean : isClean m cws ≡ true) where
   candidates : count (isCandidate m cws) 9 ≡ 0
@@ -26,11 +26,11 @@ module _ (m cws : List ℕ) (clean : isClean m cws ≡ true) where
 
   no-flag : mask (isFlagged m cws) 9 ≡ 0
   unfolding isFlagged
-  no-flag = mask-zero (isFlagged m cws) 9 (λ k l. no-candidate k (follows m cws k) l)
+  no-flag = mask-zero (isFlagged m cws) 9 (λ k l. no-candidate k (sentComplement m cws k) l)
 
   no-collision : mask (isCollision m cws) 9 ≡ 0
   unfolding isCollision
-  no-collision = mask-zero (isCollision m cws) 9 (λ k l. no-candidate k (not (follows m cws k)) l)
+  no-collision = mask-zero (isCollision m cws) 9 (λ k l. no-candidate k (not (sentComplement m cws k)) l)
 
   none-flagged : flaggedChips m cws ≡ 0
   unfolding flaggedChips
@@ -40,7 +40,7 @@ module _ (m cws : List ℕ) (clean : isClean m cws ≡ true) where
   unfolding outcomeOf outcomeBy mustCancel
   answered =
       ap (λ (n : ℕ). outcomeBy n m cws) none-flagged
-      ∙ ap (λ (x : ℕ). cond (eqb x 0) Answered (Refused 20)) (clean-parity m cws clean)
+      ∙ ap (λ (x : ℕ). cond (eqb x 0) Answered Unlocated) (clean-parity m cws clean)
 
   one-pass : passesOf m cws ≡ 1
   unfolding passesOf
@@ -51,8 +51,8 @@ module _ (m cws : List ℕ) (clean : isClean m cws ≡ true) where
   clean-report = λ i. record { outcome = answered i; passes = one-pass i; flagged = no-flag i; collisions = no-collision i }
 
   pub clean-bytes : length m ≡ 81 → bytesAfter m cws ≡ m
-  unfolding bytesAfter bytesBy writtenBack withWords isFlagged
+  unfolding bytesAfter writtenBack withWords isFlagged
   clean-bytes size =
-      ap (λ (o : Outcome). bytesBy o m cws) answered
-      ∙ sym (joined-ext (chipAt m) _ 9 (λ k l. rw (no-candidate k (follows m cws k) l)))
+      ap (λ (o : Outcome). ifAnswered o (writtenBack m cws) m) answered
+      ∙ sym (joined-ext (chipAt m) _ 9 (λ k l. rw (no-candidate k (sentComplement m cws k) l)))
       ∙ chips-line m size

@@ -1,11 +1,13 @@
--- A line that was stored and then damaged: document 01, "Plain memory", and document 02, Req 02, for one line. w gives the nine words that
--- were stored, q the nine patterns as bytes, and p the patterns as numbers, a pattern's word and check as the code has them.
--- Definitions alone; what holds of them is in `DamageLaws`.
+-- A line that was stored and then damaged, and what the laws of a visit to it ask of the damage: document 01, "Plain memory", and document
+-- 02, Req 02, for one line. w gives the nine words that were stored, q the nine patterns as bytes, and p the patterns as numbers, a pattern's word and check as the
+-- code has them.
+-- Definitions alone; what holds of them is in `DamageLaws` and `ToleratedLaws`.
 use mathlib.Core.Path.{_≡_}
+use mathlib.Core.Logic.{_≢_}
 use Prim.Native.Nat.{ℕ, _^_, _<_, _≤_}
-use mathlib.Core.Bool.{Bool, true, not, _&&_, _||_}
+use mathlib.Core.Bool.{true, false, not}
 use mathlib.Core.List.{List}
-use lib.Dec.{eqb, leb, ltb}
+use lib.Dec.{eqb}
 use lib.Count.{ones}
 use Rattle.code.specs.Code.{isCodeword, mendedWord, statusOf, isBeyond}
 use Rattle.cells.specs.Chips.{joined, xorAll, count}
@@ -21,32 +23,26 @@ pub record Parity (w : ℕ → ℕ) : Type 0 where
   pub fit : (k : ℕ) → k < chips → w k < 2 ^ 64
   pub sum : xorAll w chips ≡ 0
 
--- pattern k is wide, document 02's term: more than one bit is set
-abbrev pub wide : (ℕ → ℕ) → ℕ → Bool
-wide p k = ltb 1 (ones (p k))
-
--- pattern k is beyond mending
-abbrev pub beyond : (ℕ → ℕ) → ℕ → Bool
-beyond p k = isBeyond (statusOf (p k))
-
--- the premise for the nine patterns: none other than zero is a codeword, and at most one has more than one bit set
-pub record Premise (p : ℕ → ℕ) : Type 0 where
+-- what the premise says of nine patterns, each of 72 bits: zero alone is a codeword, and no two have more than one bit set
+pub record Tolerated (p : ℕ → ℕ) : Type 0 where
+  pub fit : (k : ℕ) → k < chips → p k < 2 ^ 72
   pub detected : (k : ℕ) → k < chips → isCodeword (p k) ≡ true → p k ≡ 0
-  pub oneWide : count (wide p) chips ≤ 1
+  pub oneWide : (j k : ℕ) → j < chips → k < chips → 1 < ones (p j) → 1 < ones (p k) → j ≡ k
 
 -- how many chips are damaged
-unfoldable pub damages : (ℕ → ℕ) → ℕ
-damages p = count (λ k. not (eqb (p k) 0)) chips
+unfoldable pub damagedPatterns : (ℕ → ℕ) → ℕ
+damagedPatterns p = count (λ k. not (eqb (p k) 0)) chips
 
--- M of every pattern is the zero word
-unfoldable pub undone : (ℕ → ℕ) → Bool
-undone p = eqb (count (λ k. not (eqb (mendedWord (p k)) 0)) chips) 0
+-- such a line is answered where no or one chip is damaged, where M of every pattern is the zero word, and where a pattern is beyond mending
+pub data Answerable (p : ℕ → ℕ) : Type 0 where
+  fewDamaged : damagedPatterns p ≤ 1 → Answerable p
+  allUndone : ((k : ℕ) → k < chips → mendedWord (p k) ≡ 0) → Answerable p
+  someBeyond : (k : ℕ) → k < chips → isBeyond (statusOf (p k)) ≡ true → Answerable p
 
--- the one wide pattern is beyond mending: just one is wide, and it is
-unfoldable pub wideBeyond : (ℕ → ℕ) → Bool
-wideBeyond p = eqb (count (wide p) chips) 1 && eqb (count (λ k. wide p k && beyond p k) chips) 1
-
--- with no or one damaged chip a visit answers; with more it answers if M of every pattern is the zero word, and also if the one wide
--- pattern is beyond mending
-unfoldable pub answers : (ℕ → ℕ) → Bool
-answers p = leb (damages p) 1 || (undone p || wideBeyond p)
+-- it is refused with 21 where two or more are damaged, M of a pattern is not the zero word, and none is beyond mending
+pub record Refusable (p : ℕ → ℕ) : Type 0 where
+  pub several : 1 < damagedPatterns p
+  pub chip : ℕ
+  pub below : chip < chips
+  pub remains : mendedWord (p chip) ≢ 0
+  pub noneBeyond : (k : ℕ) → k < chips → isBeyond (statusOf (p k)) ≡ false

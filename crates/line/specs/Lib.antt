@@ -1,8 +1,12 @@
 pub mod Visit
 pub mod Found
 pub mod Damage
-pub mod Former
-pub mod VisitLaws
+pub mod FormerVisit
+pub mod OutcomeLaws
+pub mod ClosedFormLaws
+pub mod CatchWordLaws
+pub mod AnsweredLaws
 pub mod CleanLaws
-pub mod FormerLaws
+pub mod FormerVisitLaws
 pub mod DamageLaws
+pub mod ToleratedLaws

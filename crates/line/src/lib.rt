@@ -11,9 +11,9 @@ ghost use Rattle.cells.specs.Chips.{joined, xorAll, mask, inMask, AtPlaces};
 ghost use Rattle.cells.specs.Cells.{chips, lineBytes, chipAt, codeword};
 ghost use Rattle.passes.specs.Passes.{passOne, isFlagged};
 ghost use Rattle.passes.specs.Syndromes.{syndromesOf};
-ghost use Rattle.line.specs.Visit.{outcomeOf, wordOf, bytesAfter, reportOf, refusalOf};
+ghost use Rattle.line.specs.Visit.{outcomeOf, wordOf, ifAnswered, bytesAfter, reportOf, refusalOf};
 ghost use Rattle.line.specs.Found.{ChecksIfAnswered};
-ghost use Rattle.line.specs.declared.Outcome.the-variants.{Answered, Refused};
+ghost use Rattle.line.specs.declared.Outcome.the-variants.{Answered};
 use cells::CHIPS;
 use cells::masks;
 use passes::first;
@@ -22,19 +22,16 @@ use passes::syndromes;
 use passes::syndromes::Syndromes;
 use passes::third;
 
-// Refusals of a visit, by their number in document 01: none flagged and the words don't xor to zero; two or more flagged, and two or more of
-// them are beyond mending, or none is and the mended words don't xor to zero.
-const PARITY: u32 = 20;
-
-const MENDED: u32 = 21;
-
 // The mask of all nine chips.
 const ALL_CHIPS: u32 = 0x1ff;
 
-// How a visit ends: with the line, or with the number of a refusal.
+// How a visit ends. Answered: with the line. Unlocated, refusal 20 of document 01: none flagged, and the words don't xor to zero.
+// Uncorrectable, refusal 21: two or more flagged, and two or more of them are beyond mending, or none is and the mended words don't xor to
+// zero.
 pub enum Outcome {
     Answered,
-    Refused(u32),
+    Unlocated,
+    Uncorrectable,
 }
 
 // What a visit reports: its outcome, the passes made, and the flagged and collision masks, bit K for chip K.
@@ -55,8 +52,8 @@ pub fn visit(line: &mut [u8], catch_words: &[u64; CHIPS]) -> Report
     let syndromes = syndromes::of_line(line);
     let unsound = syndromes::unsound_chips(syndromes);
     // Step 1.
-    let heard = first::pass(line, catch_words, unsound);
-    let candidates = heard.candidates;
+    let pass_one = first::pass(line, catch_words, unsound);
+    let candidates = pass_one.candidates;
     // Step 2. Without candidates none is flagged.
     let flagged = second::pass(line, catch_words, unsound, candidates);
     let collisions = candidates & (flagged ^ ALL_CHIPS);
@@ -68,21 +65,13 @@ pub fn visit(line: &mut [u8], catch_words: &[u64; CHIPS]) -> Report
         line,
         catch_words,
         syndromes,
-        heard.parity,
+        pass_one.parity,
         flagged,
         &mut words,
         &mut checks,
     );
-    // Step 6. Only an answered line is written back.
-    let Outcome::Answered = outcome else {
-        return Report {
-            outcome,
-            passes,
-            flagged,
-            collisions,
-        };
-    };
-    write_back(line, flagged, &words, &checks);
+    // Step 6.
+    write_answered(line, outcome, flagged, &words, &checks);
     Report {
         outcome,
         passes,
@@ -97,7 +86,8 @@ pub fn refusal(outcome: Outcome) -> u32
 {
     match outcome {
         Outcome::Answered => 0,
-        Outcome::Refused(number) => number,
+        Outcome::Unlocated => 20,
+        Outcome::Uncorrectable => 21,
     }
 }
 
@@ -123,7 +113,7 @@ fn resolve(
 {
     let flags = u32::count_ones(flagged);
     if flags == 0 {
-        return must_cancel(parity, PARITY);
+        return must_cancel(parity, Outcome::Unlocated);
     }
     if flags == 1 {
         // The one flagged chip sent its catch-word, which is taken off the xor of all nine.
@@ -154,20 +144,20 @@ fn mend_flagged(
     ensures checks { λ r. ⌜ ChecksIfAnswered r (isFlagged (now (line .entry)) (now («catch_words» .entry))) (now (words .exit)) (now (checks .exit)) ⌝ }
     ensures sizes { λ _. ⌜ (length (now (words .exit)) ≡ chips) × (length (now (checks .exit)) ≡ chips) ⌝ }
 {
-    let told = third::pass(line, catch_words, syndromes, parity, flagged, words, checks);
-    let beyond = told.beyond;
+    let pass_three = third::pass(line, catch_words, syndromes, parity, flagged, words, checks);
+    let beyond = pass_three.beyond;
     let count = u32::count_ones(beyond);
     if count == 0 {
-        return must_cancel(told.parity, MENDED);
+        return must_cancel(pass_three.parity, Outcome::Uncorrectable);
     }
     if count == 1 {
         // What the one chip beyond mending sent is taken off the xor of all nine.
         let k = masks::lowest(beyond);
         let own = words[k];
-        put(words, checks, k, told.parity ^ own);
+        put(words, checks, k, pass_three.parity ^ own);
         return Outcome::Answered;
     }
-    Outcome::Refused(MENDED)
+    Outcome::Uncorrectable
 }
 
 // Puts a word and its check byte at chip K's place.
@@ -190,15 +180,36 @@ fn passes_made(candidates: u32, flagged: u32) -> u32
     if 1 < u32::count_ones(flagged) { 3 } else { 2 }
 }
 
-// Words must xor to zero, else they are refused by a number.
-fn must_cancel(parity: u64, number: u32) -> Outcome
-    ensures { λ r. ⌜ r ≡ cond (eqb parity 0) Answered (Refused number) ⌝ }
+// Words must xor to zero, else the visit is refused.
+fn must_cancel(parity: u64, refused: Outcome) -> Outcome
+    ensures { λ r. ⌜ r ≡ cond (eqb parity 0) Answered refused ⌝ }
 {
     if parity == 0 {
         Outcome::Answered
     } else {
-        Outcome::Refused(number)
+        refused
     }
+}
+
+// Only an answered line is written back.
+fn write_answered(
+    line: &mut [u8],
+    outcome: Outcome,
+    flagged: u32,
+    words: &[u64; CHIPS],
+    checks: &[u8; CHIPS],
+)
+    requires sizes { ⌜ (length (now line) ≡ lineBytes) × (length (now words) ≡ chips) × (length (now checks) ≡ chips) ⌝ }
+    requires flagged { ⌜ flagged < 2 ^ chips ⌝ }
+    requires checks { ⌜ ChecksIfAnswered outcome (inMask flagged) (now words) (now checks) ⌝ }
+    ensures { λ _. ⌜ now (line .exit) ≡ ifAnswered outcome
+        (joined (λ k. cond (inMask flagged k) (codeword (getD (now (words .entry)) k 0)) (chipAt (now (line .entry)) k)) chips)
+        (now (line .entry)) ⌝ }
+{
+    let Outcome::Answered = outcome else {
+        return;
+    };
+    write_back(line, flagged, words, checks);
 }
 
 // Each flagged chip gets its word and check byte.

@@ -11,8 +11,8 @@ use lib.Dec.{ltb}
 use lib.ListN.{length, take, drop, drop-of-length-le}
 use lib.Seq.{sets, length-sets, drop-cons, set-getD}
 use borrow.Author.Tests.{ltb-true, ltb-false}
-use Rattle.words.specs.Bytes.{bytesFrom}
-use Rattle.words.specs.ByteLaws.{Bytes, length-bytesFrom, bytes-bytesFrom}
+use Rattle.words.specs.Bytes.{bytesFrom, Bytes}
+use Rattle.words.specs.ByteLaws.{length-bytesFrom, bytes-bytesFrom}
 use Rattle.cells.specs.CellLaws.{block-laid, block-other}
 use Rattle.memory.specs.Lines.{lineAt, withLine}
 

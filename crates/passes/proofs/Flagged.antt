@@ -14,8 +14,8 @@ use Rattle.cells.specs.Chips.{xorAll, bit, mask, inMask, AtPlaces}
 use Rattle.cells.specs.ChipLaws.{xorAll-ext, xorAll-change, mask-ext, mask-zero}
 use Rattle.cells.specs.MaskLaws.{TakenOff, mask-with, no-member}
 use Rattle.cells.proofs.Loops.{Pending, pending-all, pending-next, rest-own, rest-other, member-is}
-use Rattle.passes.specs.Passes.{catchWord, passOne, passThree, isCandidate, isFlagged, isFlaggedBeyond, isUnsound}
-use Rattle.passes.specs.PassLaws.{mendedAt, beyondAt, sent-word, third-sent, sound-mended, sound-mends, flagged-is, flagged-beyond-is}
+use Rattle.passes.specs.Passes.{catchWord, passOne, passThree, isCandidate, isFlagged, isFlaggedBeyond, isUnsound, mendedAt, beyondAt}
+use Rattle.passes.specs.PassLaws.{sent-word, third-sent, sound-mended, sound-mends, flagged-is, flagged-beyond-is}
 
 -- ---- values put at the places of a mask's chips
 

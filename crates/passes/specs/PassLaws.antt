@@ -7,35 +7,17 @@ use Prim.Native.Nat.{ℕ, _/_, _<_}
 use native.Mathlib.Omega.{arith}
 use lib.Dec.{eqb}
 use borrow.Author.Tests.{eq-eqb, ne-eqb, eqb-true, eqb-false, not-false}
-use Rattle.code.specs.Code.{isCodeword, mendedWord, isBeyond}
+use Rattle.code.specs.Code.{isCodeword}
 use Rattle.code.specs.CodeLaws.{codeword-syndrome}
 use Rattle.code.specs.MendLaws.{mendedWord-codeword}
 use Rattle.code.specs.StatusLaws.{codeword-mends}
 use Rattle.code.specs.XorLaws.{xor-zero-eq}
 use Rattle.cells.specs.Chips.{xorAll, count, mask}
 use Rattle.cells.specs.Cells.{wordAt, cellAt}
-use Rattle.words.specs.ByteLaws.{Bytes}
+use Rattle.words.specs.Bytes.{Bytes}
 use Rattle.cells.specs.CellLaws.{held-word}
 use Rattle.cells.specs.ChipLaws.{xorAll-ext, xorAll-but, count-ext, mask-ext, count-one}
-use Rattle.passes.specs.Passes.{sends, sentAt, catchWord, passOne, isCandidate, complement, passTwo, follows, isFlagged, isCollision, flaggedChips, xorOthers, passThree, toldAt, isFlaggedBeyond, beyondChips, isUnsound}
-
--- ---- what a chip holds, by the line alone
-
--- chip k's word as it stands
-abbrev pub heldWord : List ℕ → ℕ → ℕ
-heldWord m k = cellAt m k / 256
-
--- M of chip k's nine bytes
-abbrev pub mendedAt : List ℕ → ℕ → ℕ
-mendedAt m k = mendedWord (cellAt m k)
-
--- chip k is beyond mending
-abbrev pub beyondAt : List ℕ → ℕ → Bool
-beyondAt m k = isBeyond (toldAt m k)
-
--- chip k holds a codeword whose word is its catch-word
-unfoldable pub matches : List ℕ → List ℕ → ℕ → Bool
-matches m cws k = isCodeword (cellAt m k) && eqb (heldWord m k) (catchWord cws k)
+use Rattle.passes.specs.Passes.{sends, sentAt, catchWord, passOne, isCandidate, complement, passTwo, sentComplement, isFlagged, isCollision, flaggedChips, xorOthers, passThree, chipStatus, isFlaggedBeyond, beyondChips, isUnsound, heldWord, mendedAt, beyondAt, holdsCatchWord}
 
 -- ---- what a chip sends
 
@@ -66,7 +48,7 @@ sound-sends false register m k bytes h = sound-mended m k h ∙ held-word m k by
 
 -- a chip that holds a codeword is not beyond mending
 pub sound-mends : (m : List ℕ) (k : ℕ) → isUnsound m k ≡ false → beyondAt m k ≡ false
-unfolding isUnsound toldAt
+unfolding isUnsound chipStatus
 sound-mends m k h = codeword-mends (cellAt m k) (not-false (isCodeword (cellAt m k)) h)
 
 -- ---- which chips are flagged
@@ -86,9 +68,9 @@ module _ (w x y : ℕ) (ne : x ≡ y → ⊥) where
   flag-law true = both (eqb w x) refl
   flag-law false = rw (eq-eqb x x refl, eq-eqb y y refl)
 
-  match-law : (b : Bool) → (eqb (cond b w x) x && not (eqb (cond b w y) y)) ≡ (b && eqb w x)
-  match-law true = first-alone (eqb w x) (eqb w y) (both (eqb w x) refl)
-  match-law false = rw (eq-eqb x x refl, eq-eqb y y refl)
+  collision-law : (b : Bool) → (eqb (cond b w x) x && not (eqb (cond b w y) y)) ≡ (b && eqb w x)
+  collision-law true = first-alone (eqb w x) (eqb w y) (both (eqb w x) refl)
+  collision-law false = rw (eq-eqb x x refl, eq-eqb y y refl)
 
 candidate-law : (w x : ℕ) (b : Bool) → eqb (cond b w x) x ≡ (not b || (b && eqb w x))
 candidate-law w x true = refl
@@ -101,17 +83,17 @@ module _ (m cws : List ℕ) where
 
   -- the flagged chips are those that hold no codeword
   pub flagged-is : (k : ℕ) → isFlagged m cws k ≡ isUnsound m k
-  unfolding isFlagged isCandidate follows passOne passTwo sentAt sends isUnsound
+  unfolding isFlagged isCandidate sentComplement passOne passTwo sentAt sends isUnsound
   flagged-is k = flag-law (heldWord m k) (catchWord cws k) (complement cws k) (complement-ne k) (isCodeword (cellAt m k))
 
   -- the collisions are those whose codeword's word is their catch-word
-  pub collides-is : (k : ℕ) → isCollision m cws k ≡ matches m cws k
-  unfolding isCollision isCandidate follows passOne passTwo sentAt sends matches
-  collides-is k = match-law (heldWord m k) (catchWord cws k) (complement cws k) (complement-ne k) (isCodeword (cellAt m k))
+  pub collides-is : (k : ℕ) → isCollision m cws k ≡ holdsCatchWord m cws k
+  unfolding isCollision isCandidate sentComplement passOne passTwo sentAt sends holdsCatchWord
+  collides-is k = collision-law (heldWord m k) (catchWord cws k) (complement cws k) (complement-ne k) (isCodeword (cellAt m k))
 
   -- the candidates are the chips of both kinds
-  pub candidate-is : (k : ℕ) → isCandidate m cws k ≡ (isUnsound m k || matches m cws k)
-  unfolding isCandidate passOne sentAt sends isUnsound matches
+  pub candidate-is : (k : ℕ) → isCandidate m cws k ≡ (isUnsound m k || holdsCatchWord m cws k)
+  unfolding isCandidate passOne sentAt sends isUnsound holdsCatchWord
   candidate-is k = candidate-law (heldWord m k) (catchWord cws k) (isCodeword (cellAt m k))
 
   -- the flagged chips' mask is that of the chips that hold no codeword
@@ -119,8 +101,8 @@ module _ (m cws : List ℕ) where
   flagged-mask = mask-ext (isFlagged m cws) (isUnsound m) 9 (λ k _. flagged-is k)
 
   -- the collisions' mask is that of the chips whose codeword's word is their catch-word
-  pub collisions-mask : mask (isCollision m cws) 9 ≡ mask (matches m cws) 9
-  collisions-mask = mask-ext (isCollision m cws) (matches m cws) 9 (λ k _. collides-is k)
+  pub collisions-mask : mask (isCollision m cws) 9 ≡ mask (holdsCatchWord m cws) 9
+  collisions-mask = mask-ext (isCollision m cws) (holdsCatchWord m cws) 9 (λ k _. collides-is k)
 
   -- as many chips are flagged as hold no codeword
   pub flagged-count : flaggedChips m cws ≡ count (isUnsound m) 9

@@ -44,14 +44,14 @@ unfoldable pub passTwo : List ℕ → List ℕ → ℕ → ℕ
 passTwo m cws = sentAt true (complement cws) m
 
 -- a candidate that sent its complement is flagged; any other candidate is a collision. Both are document 01's terms.
-unfoldable pub follows : List ℕ → List ℕ → ℕ → Bool
-follows m cws k = eqb (passTwo m cws k) (complement cws k)
+unfoldable pub sentComplement : List ℕ → List ℕ → ℕ → Bool
+sentComplement m cws k = eqb (passTwo m cws k) (complement cws k)
 
 unfoldable pub isFlagged : List ℕ → List ℕ → ℕ → Bool
-isFlagged m cws k = isCandidate m cws k && follows m cws k
+isFlagged m cws k = isCandidate m cws k && sentComplement m cws k
 
 unfoldable pub isCollision : List ℕ → List ℕ → ℕ → Bool
-isCollision m cws k = isCandidate m cws k && not (follows m cws k)
+isCollision m cws k = isCandidate m cws k && not (sentComplement m cws k)
 
 unfoldable pub flaggedChips : List ℕ → List ℕ → ℕ
 flaggedChips m cws = count (isFlagged m cws) chips
@@ -65,12 +65,30 @@ unfoldable pub passThree : List ℕ → List ℕ → ℕ → ℕ
 passThree m cws = sentAt false (complement cws) m
 
 -- Document 02, Req 02: for each word sent with Enable clear a chip tells its status
-unfoldable pub toldAt : List ℕ → ℕ → Status
-toldAt m k = statusOf (cellAt m k)
+unfoldable pub chipStatus : List ℕ → ℕ → Status
+chipStatus m k = statusOf (cellAt m k)
 
 -- a flagged chip that is beyond mending
 unfoldable pub isFlaggedBeyond : List ℕ → List ℕ → ℕ → Bool
-isFlaggedBeyond m cws k = isFlagged m cws k && isBeyond (toldAt m k)
+isFlaggedBeyond m cws k = isFlagged m cws k && isBeyond (chipStatus m k)
 
 unfoldable pub beyondChips : List ℕ → List ℕ → ℕ
 beyondChips m cws = count (isFlaggedBeyond m cws) chips
+
+-- ---- what a chip holds, by the line alone; for laws. Not of document 01
+
+-- chip k's word as it stands
+abbrev pub heldWord : List ℕ → ℕ → ℕ
+heldWord m k = cellAt m k / 256
+
+-- M of chip k's nine bytes
+abbrev pub mendedAt : List ℕ → ℕ → ℕ
+mendedAt m k = mendedWord (cellAt m k)
+
+-- chip k is beyond mending
+abbrev pub beyondAt : List ℕ → ℕ → Bool
+beyondAt m k = isBeyond (chipStatus m k)
+
+-- chip k holds a codeword whose word is its catch-word
+unfoldable pub holdsCatchWord : List ℕ → List ℕ → ℕ → Bool
+holdsCatchWord m cws k = isCodeword (cellAt m k) && eqb (heldWord m k) (catchWord cws k)

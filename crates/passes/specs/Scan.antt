@@ -13,5 +13,5 @@ unfoldable pub isClean : List ℕ → List ℕ → Bool
 isClean m cws = eqb (mask (isCandidate m cws) chips) 0 && eqb (xorAll (passOne m cws) chips) 0
 
 -- chip k's word is its catch-word
-abbrev pub meets : List ℕ → List ℕ → ℕ → Bool
-meets m cws k = eqb (wordAt m k) (catchWord cws k)
+abbrev pub equalsCatchWord : List ℕ → List ℕ → ℕ → Bool
+equalsCatchWord m cws k = eqb (wordAt m k) (catchWord cws k)

@@ -16,12 +16,12 @@ use Rattle.cells.specs.Chips.{xorAll, count, mask}
 use Rattle.cells.specs.Cells.{wordAt, checkAt, cellAt}
 use Rattle.code.specs.TestLaws.{and-first, and-second}
 use Rattle.cells.specs.ChipLaws.{xorAll-ext, count-none, count-next, count-zero, mask-zero, mask-count}
-use Rattle.words.specs.ByteLaws.{Bytes}
-use Rattle.passes.specs.Passes.{catchWord, passOne, isCandidate, isUnsound}
-use Rattle.passes.specs.PassLaws.{matches, sent-held, candidate-is}
+use Rattle.words.specs.Bytes.{Bytes}
+use Rattle.passes.specs.Passes.{catchWord, passOne, isCandidate, isUnsound, holdsCatchWord}
+use Rattle.passes.specs.PassLaws.{sent-held, candidate-is}
 use Rattle.cells.specs.Checks.{everyOther}
 use Rattle.cells.specs.CheckLaws.{other-equal, checks-xor}
-use Rattle.passes.specs.Scan.{isClean, meets}
+use Rattle.passes.specs.Scan.{isClean, equalsCatchWord}
 
 -- ---- tests
 
@@ -107,7 +107,7 @@ pub record Clean (m cws : List ℕ) : Type 0 where
   pub words : xorAll (wordAt m) 9 ≡ 0
   pub checks : xorAll (checkAt m) 9 ≡ 0
   pub eight : count (isUnsound m) 8 ≡ 0
-  pub apart : count (meets m cws) 9 ≡ 0
+  pub none : count (equalsCatchWord m cws) 9 ≡ 0
 
 module _ (m cws : List ℕ) where
   -- no chip is a candidate
@@ -122,7 +122,7 @@ module _ (m cws : List ℕ) where
 
 module _ (m cws : List ℕ) (bytes : Bytes m) where
   -- it is a candidate where that is its catch-word
-  candidate : (k : ℕ) → isUnsound m k ≡ false → isCandidate m cws k ≡ meets m cws k
+  candidate : (k : ℕ) → isUnsound m k ≡ false → isCandidate m cws k ≡ equalsCatchWord m cws k
   unfolding isCandidate
   candidate k e = ap (λ (w : ℕ). eqb w (catchWord cws k)) (sent-held m cws k bytes e)
 
@@ -133,7 +133,7 @@ module _ (m cws : List ℕ) (bytes : Bytes m) where
       let nine : count (isUnsound m) 9 ≡ 0 = count-next (isUnsound m) 8 (c .eight) (last-sound m bytes 8 (c .words) (c .checks) (c .eight)) in
       let sound : (k : ℕ) → k < 9 → isUnsound m k ≡ false = count-none (isUnsound m) 9 nine in
       ap₂ _&&_
-      (eq-eqb _ 0 (mask-zero (isCandidate m cws) 9 (λ k l. candidate k (sound k l) ∙ count-none (meets m cws) 9 (c .apart) k l)))
+      (eq-eqb _ 0 (mask-zero (isCandidate m cws) 9 (λ k l. candidate k (sound k l) ∙ count-none (equalsCatchWord m cws) 9 (c .none) k l)))
       (eq-eqb _ 0 (xorAll-ext (passOne m cws) (wordAt m) 9 (λ k l. sent-held m cws k bytes (sound k l)) ∙ c .words))
 
   -- and a clean line is such
@@ -144,7 +144,7 @@ module _ (m cws : List ℕ) (bytes : Bytes m) where
         words = words;
         checks = xor-checks m bytes 9 (count-zero (isUnsound m) 9 sound) ∙ ap checkOf words ∙ check-zero;
         eight = count-zero (isUnsound m) 8 (λ k l. sound k (omega arith));
-        apart = count-zero (meets m cws) 9 (λ k l. sym (candidate k (sound k l)) ∙ none k l);
+        none = count-zero (equalsCatchWord m cws) 9 (λ k l. sym (candidate k (sound k l)) ∙ none k l);
       }
     where
       none : (k : ℕ) → k < 9 → isCandidate m cws k ≡ false
@@ -155,4 +155,4 @@ module _ (m cws : List ℕ) (bytes : Bytes m) where
       neither false b h = refl
 
       sound : (k : ℕ) → k < 9 → isUnsound m k ≡ false
-      sound k l = neither (isUnsound m k) (matches m cws k) (sym (candidate-is m cws k) ∙ none k l)
+      sound k l = neither (isUnsound m k) (holdsCatchWord m cws k) (sym (candidate-is m cws k) ∙ none k l)

@@ -16,7 +16,7 @@ use Rattle.cells.specs.ChipLaws.{mask-ext}
 use Rattle.cells.specs.Cells.{wordAt, checkAt, cellAt}
 use Rattle.cells.specs.Checks.{everyOther}
 use Rattle.cells.specs.CheckLaws.{checks-at}
-use Rattle.words.specs.ByteLaws.{Bytes}
+use Rattle.words.specs.Bytes.{Bytes}
 use Rattle.passes.specs.Passes.{isUnsound}
 use Rattle.passes.specs.ScanLaws.{check-fits}
 use Rattle.passes.specs.Syndromes.{chipSyndrome, syndromesOf, syndromeIn}

@@ -7,7 +7,7 @@ ghost use Rattle.cells.specs.Cells.{chips, lineBytes, wordAt, checkAt};
 ghost use Rattle.cells.specs.Checks.{everyOther};
 ghost use Rattle.passes.specs.Scan.{isClean};
 ghost use Rattle.passes.specs.Passes.{isUnsound};
-use super::met;
+use super::equal;
 use super::syndromes;
 use cells::CHIP_BYTES;
 use cells::CHIPS;
@@ -23,7 +23,7 @@ pub fn is_clean(line: &[u8], catch_words: &[u64; CHIPS]) -> bool
     if parity(line) != 0 {
         return false;
     }
-    if !met::apart(line, catch_words) {
+    if !equal::none(line, catch_words) {
         return false;
     }
     let held = syndromes::held(line);

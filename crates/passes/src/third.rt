@@ -12,8 +12,8 @@ use super::syndromes::Syndromes;
 use cells::CHIPS;
 use cells::masks;
 
-// What pass three tells: the xor of the nine words sent, and the flagged chips that are beyond mending.
-pub struct Told {
+// What pass three gives: the xor of the nine words sent, and the flagged chips that are beyond mending.
+pub struct PassThree {
     pub parity: u64,
     pub beyond: u32,
 }
@@ -28,7 +28,7 @@ pub fn pass(
     flagged: u32,
     words: &mut [u64; CHIPS],
     checks: &mut [u8; CHIPS],
-) -> Told
+) -> PassThree
     requires sizes { ⌜ (length (now line) ≡ lineBytes) × (length (now «catch_words») ≡ chips) × (length (now words) ≡ chips) × (length (now checks) ≡ chips) ⌝ }
     requires syndromes { ⌜ syndromes ≡ syndromesOf (now line) ⌝ }
     requires parity { ⌜ parity ≡ xorAll (passOne (now line) (now «catch_words»)) chips ⌝ }
@@ -53,7 +53,7 @@ pub fn pass(
         beyond = beyond | masks::only_if(code::is_beyond(status), k);
         rest = masks::without_lowest(rest);
     }
-    Told {
+    PassThree {
         parity: xor,
         beyond,
     }

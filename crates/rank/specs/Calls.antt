@@ -12,7 +12,7 @@ use Rattle.rank.specs.declared.PatrolResult.{PatrolResult}
 use Rattle.visits.specs.Runs.{outs, end, upFrom}
 use Rattle.memory.specs.Lines.{lineAt, withLine, faulted}
 use Rattle.record.specs.Record.{fresh, booted, renewed}
-use Rattle.refusals.specs.Refusals.{bootRefusal, writeRefusal, readRefusal, patrolRefusal, renewRefusal, faultRefusal}
+use Rattle.refusals.specs.Refusals.{bootRefusal, writeRefusal, readTests, patrolRefusal, renewRefusal, faultRefusal}
 use Rattle.visits.specs.Visits.{Device, device, LeavesRead, visitOf, readBy, refusedIn, rewrittenIn}
 
 -- what a call leaves: its result and the lent memory
@@ -41,7 +41,7 @@ writeOf r m l b = writeBy (writeRefusal r m l b) r m l b
 -- ---- read: a visit that puts the line in a 64-byte buffer b
 
 unfoldable pub readOf : Rank → List ℕ → ℕ → ℕ → List ℕ → LeavesRead
-readOf r m task l b = readBy (readRefusal r m task l b) r m task l b
+readOf r m task l b = readBy (readTests r m task l b) r m task l b
 
 -- ---- patrol: visits min(budget, N − first) lines from a first line upwards; a refused line doesn't stop it
 

@@ -52,12 +52,12 @@ pub extern "C" fn rank_write(rank: Rank, memory: &mut [u8], line: u32, bytes: &[
     ensures result { λ r. ⌜ r ≡ writeOf rank (now (memory .entry)) line (now (bytes .entry)) .result ⌝ }
     ensures memory { λ _. ⌜ now (memory .exit) ≡ writeOf rank (now (memory .entry)) line (now (bytes .entry)) .memory ⌝ }
 {
-    let refusal = refusals::of_write(rank, memory, line, bytes);
-    if refusal == 0 {
+    let number = refusals::of_write(rank, memory, line, bytes);
+    if number == 0 {
         memory::lay(memory, line, bytes);
     }
     Called {
-        refusal,
+        refusal: number,
         rank: record::kept(rank),
     }
 }

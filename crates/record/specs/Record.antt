@@ -11,8 +11,7 @@ use lib.ListN.{getD, set, replicate}
 use Rattle.cells.specs.Cells.{chips}
 use Rattle.cells.specs.Chips.{ofChips, inMask}
 use Rattle.line.specs.declared.Report.{Report}
-use Rattle.line.specs.declared.Outcome.{Outcome}
-use Rattle.line.specs.declared.Outcome.the-variants.{Answered, Refused}
+use Rattle.line.specs.Visit.{ifAnswered}
 use Rattle.record.specs.declared.Rank.{Rank}
 
 -- a rank has 1 to 65,536 lines
@@ -62,10 +61,10 @@ moved collisions ws = ofChips (λ k. cond (inMask collisions k) (grown (getD ws 
 unfoldable pub counted : ℕ → ℕ → List ℕ → List ℕ
 counted task n totals = set totals task (min (getD totals task 0 + n) totalLimit)
 
--- 6. After an answered visit each colliding chip's catch-word and register grow, and the total of the task that the call names grows by the
--- flagged chips. Apart from that growth the record is as it was, after a refusal too.
-unfoldable pub settledBy : ℕ → Outcome → Report → Rank → Rank
-settledBy task Answered v r =
+-- 6. After an answered visit for a task that reports v, each colliding chip's catch-word and register grow, and the total of the task grows
+-- by the flagged chips
+unfoldable pub afterAnswer : ℕ → Report → Rank → Rank
+afterAnswer task v r =
     record {
       lines = r .lines;
       enable = r .enable;
@@ -73,7 +72,10 @@ settledBy task Answered v r =
       registers = moved (v .collisions) (r .registers);
       repairs = counted task (ones (v .flagged)) (r .repairs);
     }
-settledBy task (Refused number) v r = r
+
+-- apart from that growth registers and Enable, and all else, are as in pass one again, after a refusal too
+unfoldable pub afterVisit : ℕ → Report → Rank → Rank
+afterVisit task v r = ifAnswered (v .outcome) (afterAnswer task v r) r
 
 -- the same of nine catch-words or registers and of the totals alone, by the number of the outcome: 0 for an answer
 unfoldable pub movedBy : ℕ → ℕ → List ℕ → List ℕ
@@ -83,10 +85,6 @@ movedBy (suc n) collisions ws = ws
 unfoldable pub countedBy : ℕ → ℕ → ℕ → List ℕ → List ℕ
 countedBy zero task flagged totals = counted task (ones flagged) totals
 countedBy (suc n) task flagged totals = totals
-
--- the record after a visit for a task that reports v
-unfoldable pub settled : ℕ → Report → Rank → Rank
-settled task v r = settledBy task (v .outcome) v r
 
 -- renew: gives one chip a catch-word of any value, in both copies
 unfoldable pub renewed : Rank → ℕ → ℕ → Rank

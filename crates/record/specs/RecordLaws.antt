@@ -1,7 +1,7 @@
 -- The record after a visit.
 -- Assumes nothing.
-use mathlib.Core.Path.{_≡_, refl, sym, ap, _∙_, subst}
-use mathlib.Core.Logic.{_≢_, ⊎-elim}
+use mathlib.Core.Path.{_≡_, refl, sym, ap, _∙_}
+use mathlib.Core.Logic.{_≢_}
 use mathlib.Core.Bool.{Bool, true, false, cond}
 use mathlib.Core.List.{List, [], _∷_}
 use Prim.Native.Nat.{ℕ, zero, suc, _+_, _<_, _≤_, min, zero-le}
@@ -13,13 +13,13 @@ use lib.Seq.{set-getD, getD-set-same, getD-set-other}
 use borrow.Author.Tests.{ltb-true, ltb-false, eqb-true, eqb-false, lt-ltb, le-ltb}
 use Rattle.cells.specs.MaskLaws.{no-ones, no-member}
 use Rattle.cells.specs.ChipLaws.{ofChips-ext, ofChips-list, length-ofChips}
-use Rattle.line.specs.Visit.{refusalOf}
-use Rattle.line.specs.VisitLaws.{Ends}
+use Rattle.line.specs.Visit.{refusalOf, ifAnswered}
+use Rattle.line.specs.OutcomeLaws.{either-answered}
 use Rattle.line.specs.declared.Report.{Report}
 use Rattle.line.specs.declared.Outcome.{Outcome}
-use Rattle.line.specs.declared.Outcome.the-variants.{Answered, Refused}
+use Rattle.line.specs.declared.Outcome.the-variants.{Answered, Unlocated, Uncorrectable}
 use Rattle.record.specs.declared.Rank.{Rank}
-use Rattle.record.specs.Record.{totalLimit, accepted, grown, moved, movedBy, counted, countedBy, settledBy, settled}
+use Rattle.record.specs.Record.{totalLimit, accepted, grown, moved, movedBy, counted, countedBy, afterAnswer, afterVisit}
 
 -- ---- the totals
 
@@ -94,11 +94,11 @@ module _ (task n : ℕ) (totals : List ℕ) (i : ℕ) where
 pub counted-all : (task n : ℕ) (totals : List ℕ) (i : ℕ) → task < i → countedBelow task n totals i ≡ counted task n totals
 counted-all task n totals i l = ap (λ (b : Bool). cond b (counted task n totals) totals) (lt-ltb task i l)
 
--- a total that was set within its limit
-set-within : (xs : List ℕ) (i y : ℕ) → y ≤ totalLimit → getD (set xs i y) i 0 ≤ totalLimit
-set-within [] i y h = zero-le
-set-within (x ∷ xs) zero y h = h
-set-within (x ∷ xs) (suc i) y h = set-within xs i y h
+-- totals within their limit, after one was set within it
+set-within : (xs : List ℕ) (i y : ℕ) → y ≤ totalLimit → ((j : ℕ) → getD xs j 0 ≤ totalLimit) → (j : ℕ) → getD (set xs i y) j 0 ≤ totalLimit
+set-within [] i y h few = few
+set-within (x ∷ xs) zero y h few = λ j. elim j [ zero ↦ h | suc n ↦ few (suc n) ]
+set-within (x ∷ xs) (suc i) y h few = λ j. elim j [ zero ↦ few 0 | suc n ↦ set-within xs i y h (λ k. few (suc k)) n ]
 
 -- ---- a visit by the number of its outcome, part by part
 
@@ -147,7 +147,7 @@ registers-set n c regs cws e size = by (eqb c 0) refl
     by false t = ap (movedBy n c) (sym e)
 
 -- the record after a visit, put together
-pub settled-parts : (task : ℕ) (v : Report) (r : Rank) → Ends (v .outcome) → settled task v r
+pub after-visit-parts : (task : ℕ) (v : Report) (r : Rank) → afterVisit task v r
     ≡ record {
       lines = r .lines;
       enable = r .enable;
@@ -155,12 +155,11 @@ pub settled-parts : (task : ℕ) (v : Report) (r : Rank) → Ends (v .outcome) �
       registers = movedBy (refusalOf (v .outcome)) (v .collisions) (r .registers);
       repairs = countedBy (refusalOf (v .outcome)) task (v .flagged) (r .repairs);
     }
-unfolding settled settledBy refusalOf movedBy countedBy
-settled-parts task v r = ⊎-elim (at Answered refl) (⊎-elim (at (Refused 20) refl) (at (Refused 21) refl))
+unfolding afterVisit afterAnswer refusalOf movedBy countedBy
+after-visit-parts task v r = by (v .outcome)
   where
-    Parts : Outcome → Type 0
-    Parts o =
-        settledBy task o v r
+    by : (o : Outcome)
+        → ifAnswered o (afterAnswer task v r) r
         ≡ record {
           lines = r .lines;
           enable = r .enable;
@@ -168,20 +167,20 @@ settled-parts task v r = ⊎-elim (at Answered refl) (⊎-elim (at (Refused 20) 
           registers = movedBy (refusalOf o) (v .collisions) (r .registers);
           repairs = countedBy (refusalOf o) task (v .flagged) (r .repairs);
         }
-
-    at : (o : Outcome) → Parts o → v .outcome ≡ o → Parts (v .outcome)
-    at o p e = subst Parts (sym e) p
+    by Answered = refl
+    by Unlocated = refl
+    by Uncorrectable = refl
 
 -- a visit that reports no chip leaves the record as it was
-pub settled-none : (task : ℕ) (v : Report) (r : Rank) → Ends (v .outcome) → v .flagged ≡ 0 → v .collisions ≡ 0 → length (r .«catch_words») ≡ 9
-    → length (r .registers) ≡ 9 → getD (r .repairs) task 0 ≤ totalLimit → settled task v r ≡ r
-settled-none task v r ends flagged collisions words registers few =
+pub after-visit-none : (task : ℕ) (v : Report) (r : Rank) → v .flagged ≡ 0 → v .collisions ≡ 0 → length (r .«catch_words») ≡ 9
+    → length (r .registers) ≡ 9 → getD (r .repairs) task 0 ≤ totalLimit → afterVisit task v r ≡ r
+after-visit-none task v r flagged collisions words registers few =
     let n : ℕ = refusalOf (v .outcome) in
     let same : (ws : List ℕ) → length ws ≡ 9 → movedBy n (v .collisions) ws ≡ ws =
     λ ws size. ap (λ (c : ℕ). movedBy n c ws) collisions ∙ unmoved n ws size in
     let totals : countedBy n task (v .flagged) (r .repairs) ≡ r .repairs =
     ap (λ (f : ℕ). countedBy n task f (r .repairs)) flagged ∙ uncounted n task (r .repairs) few in
-    settled-parts task v r ends
+    after-visit-parts task v r
     ∙ (λ i. record {
       lines = r .lines;
       enable = r .enable;
@@ -206,29 +205,22 @@ module _ (r : Rank) (enabled : r .enable ≡ true) (equal : r .registers ≡ r .
   }
 
 -- after a visit it is put together from the catch-words and the totals after it
-pub accepted-settled : (task : ℕ) (v : Report) (n : ℕ) (cws totals : List ℕ) → Ends (v .outcome)
+pub accepted-after-visit : (task : ℕ) (v : Report) (n : ℕ) (cws totals : List ℕ)
     → accepted n (movedBy (refusalOf (v .outcome)) (v .collisions) cws) (countedBy (refusalOf (v .outcome)) task (v .flagged) totals)
-    ≡ settled task v (accepted n cws totals)
+    ≡ afterVisit task v (accepted n cws totals)
 unfolding accepted
-accepted-settled task v n cws totals ends = sym (settled-parts task v (accepted n cws totals) ends)
+accepted-after-visit task v n cws totals = sym (after-visit-parts task v (accepted n cws totals))
 
 -- ---- lengths and limits after a visit
 
 -- there are nine catch-words
-pub length-settled : (task : ℕ) (v : Report) (r : Rank) → length (r .«catch_words») ≡ 9 → length (settled task v r .«catch_words») ≡ 9
-unfolding settled settledBy moved
-length-settled task v r nine = by (v .outcome)
-  where
-    by : (o : Outcome) → length (settledBy task o v r .«catch_words») ≡ 9
-    by Answered = length-ofChips _ 9
-    by (Refused n) = nine
+pub length-after-visit : (task : ℕ) (v : Report) (r : Rank) → length (r .«catch_words») ≡ 9 → length (afterVisit task v r .«catch_words») ≡ 9
+unfolding afterVisit afterAnswer moved
+length-after-visit task v r nine = either-answered (λ (x : Rank). length (x .«catch_words») ≡ 9) (v .outcome) (length-ofChips _ 9) nine
 
--- the task's total is within its limit
-pub total-settled : (task : ℕ) (v : Report) (r : Rank) → getD (r .repairs) task 0 ≤ totalLimit
-    → getD (settled task v r .repairs) task 0 ≤ totalLimit
-unfolding settled settledBy counted
-total-settled task v r few = by (v .outcome)
-  where
-    by : (o : Outcome) → getD (settledBy task o v r .repairs) task 0 ≤ totalLimit
-    by Answered = set-within (r .repairs) task _ (omega arith)
-    by (Refused n) = few
+-- the totals are within their limit
+pub total-after-visit : (task : ℕ) (v : Report) (r : Rank) → ((i : ℕ) → getD (r .repairs) i 0 ≤ totalLimit)
+    → (i : ℕ) → getD (afterVisit task v r .repairs) i 0 ≤ totalLimit
+unfolding afterVisit afterAnswer counted
+total-after-visit task v r few =
+    either-answered (λ (x : Rank). (i : ℕ) → getD (x .repairs) i 0 ≤ totalLimit) (v .outcome) (set-within (r .repairs) task _ (omega arith) few) few

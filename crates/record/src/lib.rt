@@ -202,7 +202,7 @@ fn counted(totals: [u32; 8], task: u32, repairs: u32) -> [u32; 8]
     ensures { λ r. ⌜ r ≡ counted task repairs totals ⌝ }
 {
     let mut after = totals;
-    for i in 0..8 {
+    for i in 0..8u32 {
         after[i as usize] = total_after(totals[i as usize], repairs_if(task == i, repairs));
     }
     after
@@ -215,12 +215,13 @@ fn repairs_if(test: bool, repairs: u32) -> u32
     if test { repairs } else { 0 }
 }
 
-// A repair total after some repairs. It stays at its limit once there.
+// A repair total after some repairs. It stays at its limit once there: a sum that wraps is below the total.
 fn total_after(total: u32, repairs: u32) -> u32
     ensures { λ r. ⌜ r ≡ min (total + repairs) totalLimit ⌝ }
 {
-    if Rank::REPAIR_LIMIT - total < repairs {
+    let sum = std::num::wrapping_add_u32(total, repairs);
+    if sum < total {
         return Rank::REPAIR_LIMIT;
     }
-    total + repairs
+    sum
 }

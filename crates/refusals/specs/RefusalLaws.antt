@@ -15,7 +15,7 @@ use Rattle.code.specs.TestLaws.{and-second}
 use Rattle.cells.specs.Chips.{count}
 use Rattle.cells.specs.ChipLaws.{count-none}
 use Rattle.record.specs.declared.Rank.{Rank}
-use Rattle.refusals.specs.Refusals.{lineOut, bufferOut, chipOut, patternOut, catchWordsOut, memoryOut, notReady, memoryDiffers, registerDiffers, taskOut, refusedIf, firstOf, stateRefusals, lineRefusals, visitRefusals, bootRefusal, writeRefusal, readRefusal, patrolRefusal, renewRefusal, faultRefusal}
+use Rattle.refusals.specs.Refusals.{lineOut, bufferOut, chipOut, patternOut, catchWordsOut, memoryOut, notReady, memoryDiffers, registerDiffers, taskOut, refusedIf, firstOf, stateRefusals, lineRefusals, visitRefusals, bootRefusal, writeRefusal, readTests, patrolRefusal, renewRefusal, faultRefusal}
 
 -- ---- the first of several
 
@@ -27,8 +27,8 @@ pub first-came : (n : ℕ) (ns : List ℕ) → n ≢ 0 → firstOf (n ∷ ns) �
 first-came zero ns h = absurd (h refl)
 first-came (suc n) ns h = refl
 
--- some refusals, and others after them
-first-of-both : (xs ys : List ℕ) → firstOf (firstOf xs ∷ ys) ≡ firstOf (xs ++ ys)
+-- the first of a list, and then others, is the first of both
+pub first-of-both : (xs ys : List ℕ) → firstOf (firstOf xs ∷ ys) ≡ firstOf (xs ++ ys)
 first-of-both [] ys = refl
 first-of-both (zero ∷ xs) ys = first-of-both xs ys
 first-of-both (suc n ∷ xs) ys = refl
@@ -168,9 +168,9 @@ module _ (r : Rank) (m : List ℕ) where
       let s = line-passed l (refusedIf (bufferOut b) 2 ∷ []) e in
       (s .0, s .1, buffer-is b (s .2))
 
-  pub read-passed : (task l : ℕ) (b : List ℕ) → readRefusal r m task l b ≡ 0
+  pub read-passed : (task l : ℕ) (b : List ℕ) → readTests r m task l b ≡ 0
       → Tested r m × (task < 8) × (l < r .lines) × (length b ≡ 64)
-  unfolding readRefusal
+  unfolding readTests
   read-passed task l b e =
       let s = visit-passed task l (refusedIf (bufferOut b) 2 ∷ []) e in
       (s .0, s .1, s .2, buffer-is b (s .3))

@@ -1,13 +1,14 @@
--- Document 01, "Refusals caused by the input" and "Refusals caused by the state", and document 02, Req 01: each condition once, then their
--- order for each call. r stands for the record and m for the lent memory.
--- Definitions alone; what holds of them is in `RefusalLaws`.
+-- Document 01, "Refusals caused by the input" and "Refusals caused by the state", and document 02, Req 01 and Req 02: each condition once,
+-- then their order for each call. r stands for the record, m for the lent memory and x for the 81 bytes of a line.
+-- Definitions alone; what holds of them is in `RefusalLaws` and `VisitRefusalLaws`.
 use Prim.Native.Nat.{ℕ, zero, suc, _*_, _/_, _%_}
-use mathlib.Core.Bool.{Bool, not, _||_, cond}
+use mathlib.Core.Bool.{Bool, not, _&&_, _||_, cond}
 use mathlib.Core.List.{List, [], _∷_, _++_}
 use lib.Dec.{eqb, ltb}
 use lib.ListN.{length, getD}
 use Rattle.cells.specs.Cells.{chipBytes, chips, dataBytes, lineBytes}
-use Rattle.cells.specs.Chips.{count}
+use Rattle.cells.specs.Chips.{xorAll, count}
+use Rattle.passes.specs.Passes.{passOne, passThree, flaggedChips, beyondChips}
 use Rattle.record.specs.declared.Rank.{Rank}
 use Rattle.record.specs.Record.{lineLimit, isLineCount, isTask}
 
@@ -78,6 +79,23 @@ registerDiffers r = ltb 0 (count (λ k. not (eqb (getD (r .registers) k 0) (getD
 abbrev pub refused14 : Rank → ℕ
 refused14 r = refusedIf (registerDiffers r) 14
 
+-- 20: none flagged, words don't xor to zero
+unfoldable pub unlocated : List ℕ → List ℕ → Bool
+unlocated x cws = eqb (flaggedChips x cws) 0 && not (eqb (xorAll (passOne x cws) chips) 0)
+
+abbrev pub refused20 : List ℕ → List ℕ → ℕ
+refused20 x cws = refusedIf (unlocated x cws) 20
+
+-- 21: two or more flagged, mended words don't xor to zero. Document 02, Req 02: so if none of them is beyond mending; not if just one is; in
+-- any case if two or more are
+unfoldable pub uncorrectable : List ℕ → List ℕ → Bool
+uncorrectable x cws =
+    ltb 1 (flaggedChips x cws)
+    && (ltb 1 (beyondChips x cws) || (eqb (beyondChips x cws) 0 && not (eqb (xorAll (passThree x cws) chips) 0)))
+
+abbrev pub refused21 : List ℕ → List ℕ → ℕ
+refused21 x cws = refusedIf (uncorrectable x cws) 21
+
 -- 31: task not below 8
 unfoldable pub taskOut : ℕ → Bool
 taskOut task = not (isTask task)
@@ -106,13 +124,20 @@ lineRefusals r m l = stateRefusals r m ++ (refused1 r l ∷ [])
 abbrev pub visitRefusals : Rank → List ℕ → ℕ → ℕ → List ℕ
 visitRefusals r m task l = stateRefusals r m ++ (refused31 task ∷ refused1 r l ∷ [])
 
--- write and read: the buffer b
+-- write: the buffer b
 unfoldable pub writeRefusal : Rank → List ℕ → ℕ → List ℕ → ℕ
 writeRefusal r m l b = firstOf (lineRefusals r m l ++ (refused2 b ∷ []))
 
-unfoldable pub readRefusal : Rank → List ℕ → ℕ → ℕ → List ℕ → ℕ
-readRefusal r m task l b = firstOf (visitRefusals r m task l ++ (refused2 b ∷ []))
+-- what a read tests before its visit: the buffer b
+unfoldable pub readTests : Rank → List ℕ → ℕ → ℕ → List ℕ → ℕ
+readTests r m task l b = firstOf (visitRefusals r m task l ++ (refused2 b ∷ []))
 
+-- read: these, then 20 or 21, by what the visit finds in the line's bytes x
+unfoldable pub readRefusal : Rank → List ℕ → ℕ → ℕ → List ℕ → List ℕ → ℕ
+readRefusal r m task l b x =
+    firstOf (visitRefusals r m task l ++ (refused2 b ∷ refused20 x (r .«catch_words») ∷ refused21 x (r .«catch_words») ∷ []))
+
+-- patrol has no 20 or 21 of its own
 unfoldable pub patrolRefusal : Rank → List ℕ → ℕ → ℕ → ℕ
 patrolRefusal r m task first = firstOf (visitRefusals r m task first)
 

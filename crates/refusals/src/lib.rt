@@ -6,7 +6,7 @@ ghost use lib.Dec.{eqb, ltb};
 ghost use lib.ListN.{getD};
 ghost use Rattle.cells.specs.Cells.{chips};
 ghost use Rattle.cells.specs.Chips.{count};
-ghost use Rattle.refusals.specs.Refusals.{chipOut, memoryOut, notReady, registerDiffers, refusedIf, stateRefusals, lineRefusals, firstOf, bootRefusal, writeRefusal, readRefusal, patrolRefusal, renewRefusal, faultRefusal};
+ghost use Rattle.refusals.specs.Refusals.{bufferOut, chipOut, memoryOut, notReady, registerDiffers, refusedIf, stateRefusals, lineRefusals, firstOf, bootRefusal, writeRefusal, readTests, patrolRefusal, renewRefusal, faultRefusal};
 use cells::CHIP_BYTES;
 use cells::CHIPS;
 use cells::DATA_BYTES;
@@ -52,15 +52,15 @@ pub fn of_write(rank: Rank, memory: &[u8], line: u32, buffer: &[u8]) -> u32
     ensures { λ r. ⌜ r ≡ writeRefusal rank (now (memory .entry)) line (now (buffer .entry)) ⌝ }
 {
     let before = of_line(rank, memory, line);
-    or_if(before, buffer.len() != DATA_BYTES, BUFFER)
+    or_if(before, buffer_out(buffer), BUFFER)
 }
 
 // Of read: 12, 13, 14, 31, 1, 2.
 pub fn of_read(rank: Rank, memory: &[u8], task: u32, line: u32, buffer: &[u8]) -> u32
-    ensures { λ r. ⌜ r ≡ readRefusal rank (now (memory .entry)) task line (now (buffer .entry)) ⌝ }
+    ensures { λ r. ⌜ r ≡ readTests rank (now (memory .entry)) task line (now (buffer .entry)) ⌝ }
 {
     let before = of_patrol(rank, memory, task, line);
-    or_if(before, buffer.len() != DATA_BYTES, BUFFER)
+    or_if(before, buffer_out(buffer), BUFFER)
 }
 
 // Of patrol, and the tests that read begins with: 12, 13, 14, 31, 1.
@@ -95,7 +95,8 @@ pub fn of_fault(rank: Rank, memory: &[u8], line: u32, chip: u32, pattern: &[u8])
     ensures { λ r. ⌜ r ≡ faultRefusal rank (now (memory .entry)) line chip (now (pattern .entry)) ⌝ }
 {
     let lined = of_line(rank, memory, line);
-    let before = or_if(lined, chip_out(chip), CHIP);
+    let chip_refused = chip_out(chip);
+    let before = or_if(lined, chip_refused, CHIP);
     or_if(before, pattern.len() != CHIP_BYTES, PATTERN)
 }
 
@@ -137,6 +138,13 @@ fn of_state(rank: Rank, memory: &[u8]) -> u32
     0
 }
 
+// 2: the line buffer is not 64 bytes.
+fn buffer_out(buffer: &[u8]) -> bool
+    ensures { λ r. ⌜ r ≡ bufferOut (now (buffer .entry)) ⌝ }
+{
+    buffer.len() != DATA_BYTES
+}
+
 // 3: the chip is not below 9.
 fn chip_out(chip: u32) -> bool
     ensures { λ r. ⌜ r ≡ chipOut chip ⌝ }
@@ -161,10 +169,11 @@ fn memory_out(memory: &[u8]) -> bool
 fn not_ready(rank: Rank) -> bool
     ensures { λ r. ⌜ r ≡ notReady rank ⌝ }
 {
-    if !rank.enable {
+    let enabled = rank.enable;
+    if !Rank::is_line_count(rank.lines) {
         return true;
     }
-    !Rank::is_line_count(rank.lines)
+    !enabled
 }
 
 // 14: a register differs from its catch-word.

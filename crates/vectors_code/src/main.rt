@@ -69,11 +69,14 @@ fn succeeds(trial: Trial, i: u64) -> bool {
 fn row_holds(i: u64) -> bool {
     let rows = known_answers::table();
     let row = rows[(i % 12) as usize];
-    code::check_byte(row.word) == row.check_byte
-        && code::syndrome(row.word, row.given) == row.syndrome
-        && code::position(row.syndrome) == row.position
-        && row.mended_check == row.given ^ check_bit(row.position)
-        && mends_to(row.word, row.given, row.mended_word, row.position)
+    let word = row[0];
+    let given = (row[2] % 256) as u8;
+    let syndrome = code::syndrome(word, given);
+    let position = code::position(syndrome);
+    code::check_byte(word) as u64 == row[1]
+        && syndrome as u64 == row[3]
+        && position as u64 == row[4]
+        && mends_to(word, given, row[5], position)
 }
 
 // The CRC-8 of the digits 1 to 9 in ASCII: the remainder of their nine bytes times x^8.

@@ -6,21 +6,21 @@ use mathlib.Core.List.{List}
 use Prim.Native.Nat.{ℕ, _+_, _*_, _≤_, _<_}
 use native.Mathlib.Omega.{arith}
 use lib.ListN.{length}
-use Rattle.words.specs.Bytes.{bytesOf, bytesFrom}
-use Rattle.words.specs.ByteLaws.{Bytes, bytesOf-number, bytes-bytesFrom, length-bytesFrom}
+use Rattle.words.specs.Bytes.{bytesOf, bytesFrom, Bytes}
+use Rattle.words.specs.ByteLaws.{bytesOf-number, bytes-bytesFrom, length-bytesFrom}
 use Rattle.cells.specs.ChipLaws.{joined-ext}
 use Rattle.cells.specs.Cells.{wordAt, lineOf}
 use Rattle.passes.specs.Scan.{isClean}
-use Rattle.line.specs.Visit.{wordOf, outcomeOf, bytesAfter, reportOf, refusalOf}
-use Rattle.line.specs.VisitLaws.{word-after, length-after}
+use Rattle.line.specs.Visit.{wordOf, outcomeOf, ifAnswered, bytesAfter, reportOf, refusalOf}
+use Rattle.line.specs.AnsweredLaws.{word-after, length-after}
 use Rattle.line.specs.declared.Report.{Report}
 use Rattle.line.specs.declared.Outcome.{Outcome}
-use Rattle.line.specs.declared.Outcome.the-variants.{Answered, Refused}
+use Rattle.line.specs.declared.Outcome.the-variants.{Answered, Unlocated, Uncorrectable}
 use Rattle.line.specs.CleanLaws.{clean-report}
 use Rattle.record.specs.RecordLaws.{unmoved}
 use Rattle.memory.specs.Lines.{lineAt, withLine}
 use Rattle.memory.specs.LineLaws.{length-lineAt, line-laid, bytes-line}
-use Rattle.visits.specs.Visits.{foundLine, bufferBy, wordsAfter, visitedOf}
+use Rattle.visits.specs.Visits.{foundLine, wordsAfter, visitedOf}
 use Rattle.visits.specs.VisitLaws.{clean, clean-memory}
 
 -- where y's words are those that the visit to x found, y's 64 bytes are the line that it found
@@ -47,14 +47,15 @@ module _ (m cws : List ℕ) (l : ℕ) (fits : 81 * l + 81 ≤ length m) (bytes :
 
   -- what is put in the buffer b by the outcome of the visit's report v
   pub visited-buffer : (b : List ℕ) (v : Report) → v ≡ reportOf (lineAt m l) cws → (n : List ℕ) → n ≡ withLine m l (bytesAfter (lineAt m l) cws)
-      → Bytes n → bufferBy (v .outcome) (lineOf (lineAt n l)) b ≡ bufferBy (reportOf (lineAt m l) cws .outcome) (foundLine (lineAt m l) cws) b
-  unfolding bufferBy reportOf
+      → Bytes n → ifAnswered (v .outcome) (lineOf (lineAt n l)) b ≡ ifAnswered (reportOf (lineAt m l) cws .outcome) (foundLine (lineAt m l) cws) b
+  unfolding reportOf
   visited-buffer b v e n memory after =
-      ap (λ (w : Report). bufferBy (w .outcome) (lineOf (lineAt n l)) b) e ∙ by (outcomeOf (lineAt m l) cws) refl
+      ap (λ (w : Report). ifAnswered (w .outcome) (lineOf (lineAt n l)) b) e ∙ by (outcomeOf (lineAt m l) cws) refl
     where
-      by : (o : Outcome) → outcomeOf (lineAt m l) cws ≡ o → bufferBy o (lineOf (lineAt n l)) b ≡ bufferBy o (foundLine (lineAt m l) cws) b
-      by Answered told = found-after n memory after told
-      by (Refused k) told = refl
+      by : (o : Outcome) → outcomeOf (lineAt m l) cws ≡ o → ifAnswered o (lineOf (lineAt n l)) b ≡ ifAnswered o (foundLine (lineAt m l) cws) b
+      by Answered answered = found-after n memory after answered
+      by Unlocated refused = refl
+      by Uncorrectable refused = refl
 
   -- a clean line: what is reported, and catch-words, memory and buffer after the visit
   module _ (is-clean : isClean (lineAt m l) cws ≡ true) where
@@ -69,6 +70,5 @@ module _ (m cws : List ℕ) (l : ℕ) (fits : 81 * l + 81 ≤ length m) (bytes :
     pub clean-kept : m ≡ withLine m l (bytesAfter (lineAt m l) cws)
     clean-kept = sym (clean-memory m l cws (length-lineAt m l fits) is-clean)
 
-    pub clean-buffer : (b : List ℕ) → lineOf (lineAt m l) ≡ bufferBy (reportOf (lineAt m l) cws .outcome) (foundLine (lineAt m l) cws) b
-    unfolding bufferBy
+    pub clean-buffer : (b : List ℕ) → lineOf (lineAt m l) ≡ ifAnswered (reportOf (lineAt m l) cws .outcome) (foundLine (lineAt m l) cws) b
     clean-buffer b = visited-buffer b clean (sym (clean-report (lineAt m l) cws is-clean)) m clean-kept bytes

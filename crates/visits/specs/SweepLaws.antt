@@ -14,18 +14,17 @@ use Rattle.cells.specs.MaskLaws.{no-ones}
 use Rattle.passes.specs.Passes.{isFlagged}
 use Rattle.passes.specs.Scan.{isClean}
 use Rattle.line.specs.Visit.{outcomeOf, bytesAfter, reportOf, refusalOf}
-use Rattle.line.specs.VisitLaws.{outcome-ends}
 use Rattle.line.specs.declared.Report.{Report}
+use Rattle.line.specs.OutcomeLaws.{either-answered}
 use Rattle.line.specs.declared.Outcome.{Outcome}
-use Rattle.line.specs.declared.Outcome.the-variants.{Answered, Refused}
 use Rattle.record.specs.declared.Rank.{Rank}
-use Rattle.record.specs.Record.{totalLimit, accepted, countedBy, settled}
-use Rattle.record.specs.RecordLaws.{accepted-settled, length-settled, total-settled}
+use Rattle.record.specs.Record.{totalLimit, accepted, countedBy, afterVisit}
+use Rattle.record.specs.RecordLaws.{accepted-after-visit, length-after-visit, total-after-visit}
 use Rattle.memory.specs.Lines.{lineAt, withLine}
 use Rattle.memory.specs.LineLaws.{length-withLine}
 use Rattle.visits.specs.declared.sweep.Tally.{Tally}
 use Rattle.visits.specs.Runs.{Did, outs, end, upFrom}
-use Rattle.visits.specs.Visits.{Device, device, visitOf, wordsAfter, isRefused, rewrittenBy, refusedIn, rewrittenIn}
+use Rattle.visits.specs.Visits.{Device, device, visitOf, wordsAfter, refusedBy, rewrittenBy, refusedIn, rewrittenIn}
 use Rattle.visits.specs.VisitLaws.{clean, clean-visit}
 
 -- of n lines from l on, i are done: the next one, and those after it
@@ -54,15 +53,11 @@ count-most p (suc n) = omega (arith, count-most p n, bit-lt (p n))
 flagged-most : (m cws : List ℕ) → ones (mask (isFlagged m cws) 9) ≤ 9
 flagged-most m cws = omega (arith, ones-mask (isFlagged m cws) 9, count-most (isFlagged m cws) 9)
 
-refused-most : (o : Outcome) → isRefused o ≤ 1
-unfolding isRefused
-refused-most Answered = zero-le
-refused-most (Refused n) = omega arith
+refused-most : (o : Outcome) → refusedBy o ≤ 1
+refused-most o = either-answered (λ (n : ℕ). n ≤ 1) o zero-le (omega arith)
 
 rewritten-most : (o : Outcome) (flagged : ℕ) → rewrittenBy o flagged ≤ ones flagged
-unfolding rewrittenBy
-rewritten-most Answered flagged = omega arith
-rewritten-most (Refused n) flagged = zero-le
+rewritten-most o flagged = either-answered (λ (n : ℕ). n ≤ ones flagged) o (omega arith) zero-le
 
 -- at most nine chips are flagged
 pub visit-flags : (m cws : List ℕ) {v : Report} → v ≡ reportOf m cws → ones (v .flagged) ≤ 9
@@ -81,11 +76,11 @@ unfolding visitOf accepted wordsAfter reportOf
 parts-visited task n l cws totals s e e₁ e₂ e₃ =
     ap₂ device
     (ap₂ (accepted n) e₁ (e₂ ∙ ap (λ (w : Report). countedBy (refusalOf (w .outcome)) task (w .flagged) totals) e)
-    ∙ accepted-settled task (reportOf (lineAt s l) cws) n cws totals (outcome-ends (lineAt s l) cws)) e₃
+    ∙ accepted-after-visit task (reportOf (lineAt s l) cws) n cws totals) e₃
 
 -- a visit to line l for a task takes the tally t and the memory s to u and x
 pub record Moves (task : ℕ) (t : Tally) (s : List ℕ) (l : ℕ) (u : Tally) (x : List ℕ) : Type 0 where
-  pub refused : u .refused ≡ t .refused + isRefused (visitOf task (device (t .rank) s) l .out .outcome)
+  pub refused : u .refused ≡ t .refused + refusedBy (visitOf task (device (t .rank) s) l .out .outcome)
   pub rewritten : u .rewritten
       ≡ t .rewritten + rewrittenBy (visitOf task (device (t .rank) s) l .out .outcome) (visitOf task (device (t .rank) s) l .out .flagged)
   pub after : device (u .rank) x ≡ visitOf task (device (t .rank) s) l .now
@@ -94,14 +89,13 @@ pub record Moves (task : ℕ) (t : Tally) (s : List ℕ) (l : ℕ) (u : Tally) (
 pub moves-clean : {task : ℕ} {t u : Tally} {s x : List ℕ} {l : ℕ} → length (lineAt s l) ≡ 81
     → isClean (lineAt s l) (t .rank .«catch_words») ≡ true → length (t .rank .«catch_words») ≡ 9 → length (t .rank .registers) ≡ 9
     → getD (t .rank .repairs) task 0 ≤ totalLimit → u ≡ t → x ≡ s → Moves task t s l u x
-unfolding isRefused rewrittenBy
 moves-clean {task} {t} {u} {s} {x} {l} size h words registers total same kept =
     let e : visitOf task (device (t .rank) s) l ≡ record { out = clean; now = device (t .rank) s } =
     clean-visit task (t .rank) s l size h words registers total in
     record {
       refused =
           ap (λ (y : Tally). y .refused) same
-          ∙ sym (ap (λ (v : Did Device Report). t .refused + isRefused (v .out .outcome)) e ∙ add-zero (t .refused));
+          ∙ sym (ap (λ (v : Did Device Report). t .refused + refusedBy (v .out .outcome)) e ∙ add-zero (t .refused));
       rewritten =
           ap (λ (y : Tally). y .rewritten) same
           ∙ sym (ap (λ (v : Did Device Report). t .rewritten + rewrittenBy (v .out .outcome) (v .out .flagged)) e
@@ -117,7 +111,7 @@ pub record Swept (task : ℕ) (r : Rank) (m : List ℕ) (l n : ℕ) (t : Tally) 
   pub within : i ≤ n
   pub size : length s ≡ length m
   pub words : length (t .rank .«catch_words») ≡ 9
-  pub total : getD (t .rank .repairs) task 0 ≤ totalLimit
+  pub total : (j : ℕ) → getD (t .rank .repairs) j 0 ≤ totalLimit
   pub few-refused : t .refused ≤ i
   pub few-rewritten : t .rewritten ≤ 9 * i
   pub refused : t .refused + refusedIn (outs (visitOf task) (device (t .rank) s) (upFrom (l + i) (n - i))) ≡ refusedIn
@@ -126,7 +120,7 @@ pub record Swept (task : ℕ) (r : Rank) (m : List ℕ) (l n : ℕ) (t : Tally) 
       (outs (visitOf task) (device r m) (upFrom l n))
   pub ends : end (visitOf task) (device (t .rank) s) (upFrom (l + i) (n - i)) ≡ end (visitOf task) (device r m) (upFrom l n)
 
-pub swept-none : (task : ℕ) (r : Rank) (m : List ℕ) (l n : ℕ) → length (r .«catch_words») ≡ 9 → getD (r .repairs) task 0 ≤ totalLimit
+pub swept-none : (task : ℕ) (r : Rank) (m : List ℕ) (l n : ℕ) → length (r .«catch_words») ≡ 9 → ((j : ℕ) → getD (r .repairs) j 0 ≤ totalLimit)
     → Swept task r m l n (record { refused = 0; rewritten = 0; rank = r }) m 0
 swept-none task r m l n words total =
     let e : upFrom (l + 0) (n - 0) ≡ upFrom l n = all-lines l n in
@@ -150,7 +144,7 @@ module _ {task : ℕ} {r : Rank} {m : List ℕ} {l n : ℕ} {t u : Tally} {s x :
   next : upFrom (l + i) (n - i) ≡ (l + i) ∷ rest
   next = next-line l n i below
 
-  now-rank : u .rank ≡ settled task (reportOf (lineAt s (l + i)) (t .rank .«catch_words»)) (t .rank)
+  now-rank : u .rank ≡ afterVisit task (reportOf (lineAt s (l + i)) (t .rank .«catch_words»)) (t .rank)
   unfolding visitOf
   now-rank = ap (λ (d : Device). d .rank) (moves .after)
 
@@ -173,9 +167,9 @@ module _ {task : ℕ} {r : Rank} {m : List ℕ} {l n : ℕ} {t u : Tally} {s x :
   swept-more =
       let d : Device = device (t .rank) s in
       let vs : Device → List Report = λ e. outs (visitOf task) e rest in
-      let c : isRefused (visitOf task d (l + i) .out .outcome) + refusedIn (vs (device (u .rank) x)) ≡ refusedIn
+      let c : refusedBy (visitOf task d (l + i) .out .outcome) + refusedIn (vs (device (u .rank) x)) ≡ refusedIn
       (outs (visitOf task) d (upFrom (l + i) (n - i))) =
-      ap (λ (e : Device). isRefused (visitOf task d (l + i) .out .outcome) + refusedIn (vs e)) (moves .after)
+      ap (λ (e : Device). refusedBy (visitOf task d (l + i) .out .outcome) + refusedIn (vs e)) (moves .after)
       ∙ ap (λ (ls : List ℕ). refusedIn (outs (visitOf task) d ls)) (sym next) in
       let b : rewrittenBy (visitOf task d (l + i) .out .outcome) (visitOf task d (l + i) .out .flagged)
       + rewrittenIn (vs (device (u .rank) x)) ≡ rewrittenIn (outs (visitOf task) d (upFrom (l + i) (n - i))) =
@@ -185,8 +179,8 @@ module _ {task : ℕ} {r : Rank} {m : List ℕ} {l n : ℕ} {t u : Tally} {s x :
       record {
         within = omega arith;
         size = now-size ∙ h .size;
-        words = ap (λ (y : Rank). length (y .«catch_words»)) now-rank ∙ length-settled task _ (t .rank) (h .words);
-        total = subst (λ (y : Rank). getD (y .repairs) task 0 ≤ totalLimit) (sym now-rank) (total-settled task _ (t .rank) (h .total));
+        words = ap (λ (y : Rank). length (y .«catch_words»)) now-rank ∙ length-after-visit task _ (t .rank) (h .words);
+        total = subst (λ (y : Rank). (j : ℕ) → getD (y .repairs) j 0 ≤ totalLimit) (sym now-rank) (total-after-visit task _ (t .rank) (h .total));
         few-refused = omega (arith, moves .refused, refused-most (visitOf task d (l + i) .out .outcome), h .few-refused);
         few-rewritten = omega (arith, moves .rewritten, few, h .few-rewritten);
         refused = omega (arith, moves .refused, c, h .refused);

@@ -3,19 +3,17 @@
 use mathlib.Core.Path.{_≡_, refl, sym, ap, ap₂, _∙_}
 use mathlib.Core.Bool.{true, cond}
 use mathlib.Core.List.{List}
-use mathlib.Core.Logic.{inl}
 use Prim.Native.Nat.{ℕ, _≤_}
 use lib.Dec.{eqb}
 use lib.ListN.{length, getD}
 use Rattle.passes.specs.Scan.{isClean}
 use Rattle.line.specs.Visit.{bytesAfter, reportOf, refusalOf}
-use Rattle.line.specs.VisitLaws.{outcome-ends}
 use Rattle.line.specs.CleanLaws.{clean-report, clean-bytes}
 use Rattle.line.specs.declared.Report.{Report}
 use Rattle.line.specs.declared.Outcome.the-variants.{Answered}
 use Rattle.record.specs.declared.Rank.{Rank}
-use Rattle.record.specs.Record.{totalLimit, movedBy, countedBy, settled}
-use Rattle.record.specs.RecordLaws.{settled-none, settled-parts, registers-set}
+use Rattle.record.specs.Record.{totalLimit, movedBy, countedBy, afterVisit}
+use Rattle.record.specs.RecordLaws.{after-visit-none, after-visit-parts, registers-set}
 use Rattle.memory.specs.Lines.{lineAt, withLine}
 use Rattle.memory.specs.LineLaws.{length-withLine, line-same}
 use Rattle.visits.specs.declared.read.Visited.{Visited}
@@ -54,7 +52,7 @@ module _ (task : ℕ) (r : Rank) (m : List ℕ) (l : ℕ) where
         rank = record { lines = r .lines; enable = r .enable; «catch_words» = words i; registers = set i; repairs = counted i };
       })
       ∙ ap (λ (q : Rank). record { refusal = n; passes = report .passes; flagged = report .flagged; collisions = report .collisions; rank = q })
-      (sym (settled-parts task report r (outcome-ends (lineAt m l) (r .«catch_words»))))
+      (sym (after-visit-parts task report r))
 
 -- the memory n after a visit is as long as it was
 pub length-visited : (m : List ℕ) (l : ℕ) (cws : List ℕ) {n : List ℕ} → n ≡ withLine m l (bytesAfter (lineAt m l) cws) → length n ≡ length m
@@ -76,6 +74,6 @@ pub clean-visit : (task : ℕ) (r : Rank) (m : List ℕ) (l : ℕ) → length (l
 unfolding visitOf
 clean-visit task r m l size is-clean words registers total =
     let report : reportOf (lineAt m l) (r .«catch_words») ≡ clean = clean-report (lineAt m l) (r .«catch_words») is-clean in
-    let kept : settled task (reportOf (lineAt m l) (r .«catch_words»)) r ≡ r =
-    ap (λ (v : Report). settled task v r) report ∙ settled-none task clean r (inl refl) refl refl words registers total in
+    let kept : afterVisit task (reportOf (lineAt m l) (r .«catch_words»)) r ≡ r =
+    ap (λ (v : Report). afterVisit task v r) report ∙ after-visit-none task clean r refl refl words registers total in
     λ i. record { out = report i; now = device (kept i) (clean-memory m l (r .«catch_words») size is-clean i) }

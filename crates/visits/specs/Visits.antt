@@ -6,16 +6,15 @@ use mathlib.Core.List.{List}
 use lib.Count.{ones}
 use Rattle.cells.specs.Chips.{joined}
 use Rattle.words.specs.Bytes.{bytesOf}
-use Rattle.line.specs.Visit.{wordOf, bytesAfter, reportOf, refusalOf}
+use Rattle.line.specs.Visit.{wordOf, ifAnswered, bytesAfter, reportOf, refusalOf}
 use Rattle.line.specs.declared.Report.{Report}
 use Rattle.line.specs.declared.Outcome.{Outcome}
-use Rattle.line.specs.declared.Outcome.the-variants.{Answered, Refused}
 use Rattle.record.specs.declared.Rank.{Rank}
 use Rattle.visits.specs.declared.ReadResult.{ReadResult}
 use Rattle.visits.specs.declared.read.Visited.{Visited}
 use Rattle.visits.specs.Runs.{Did, sumOf}
 use Rattle.memory.specs.Lines.{lineAt, withLine}
-use Rattle.record.specs.Record.{movedBy, settled}
+use Rattle.record.specs.Record.{movedBy, afterVisit}
 
 -- the record and the lent memory
 pub record Device : Type 0 where
@@ -40,7 +39,7 @@ visitOf task d l =
     record {
       out = reportOf (lineAt (d .memory) l) (d .rank .«catch_words»);
       now = record {
-        rank = settled task (reportOf (lineAt (d .memory) l) (d .rank .«catch_words»)) (d .rank);
+        rank = afterVisit task (reportOf (lineAt (d .memory) l) (d .rank .«catch_words»)) (d .rank);
         memory = withLine (d .memory) l (bytesAfter (lineAt (d .memory) l) (d .rank .«catch_words»));
       };
     }
@@ -70,33 +69,26 @@ resultOf v =
 unfoldable pub foundLine : List ℕ → List ℕ → List ℕ
 foundLine bytes cws = joined (λ k. bytesOf 8 (wordOf bytes cws k)) 8
 
--- the buffer by the outcome of the visit
-unfoldable pub bufferBy : Outcome → List ℕ → List ℕ → List ℕ
-bufferBy Answered found b = found
-bufferBy (Refused number) found b = b
-
 unfoldable pub readBy : ℕ → Rank → List ℕ → ℕ → ℕ → List ℕ → LeavesRead
 readBy zero r m task l b =
     let v : Did Device Report = visitOf task (device r m) l in
     let found : List ℕ = foundLine (lineAt m l) (r .«catch_words») in
-    record { result = resultOf v; memory = v .now .memory; buffer = bufferBy (v .out .outcome) found b }
+    record { result = resultOf v; memory = v .now .memory; buffer = ifAnswered (v .out .outcome) found b }
 readBy (suc n) r m task l b =
     record { result = record { refusal = suc n; passes = 0; flagged = 0; collisions = 0; rank = r }; memory = m; buffer = b }
 
 -- ---- patrol: what it counts of its visits
 
 -- 1 for a refused visit
-unfoldable pub isRefused : Outcome → ℕ
-isRefused Answered = 0
-isRefused (Refused number) = 1
+abbrev pub refusedBy : Outcome → ℕ
+refusedBy o = ifAnswered o 0 1
 
 -- the words rewritten: each flagged chip's, if the line was answered
-unfoldable pub rewrittenBy : Outcome → ℕ → ℕ
-rewrittenBy Answered flagged = ones flagged
-rewrittenBy (Refused number) flagged = 0
+abbrev pub rewrittenBy : Outcome → ℕ → ℕ
+rewrittenBy o flagged = ifAnswered o (ones flagged) 0
 
 unfoldable pub refusedIn : List Report → ℕ
-refusedIn vs = sumOf (λ v. isRefused (v .outcome)) vs
+refusedIn vs = sumOf (λ v. refusedBy (v .outcome)) vs
 
 unfoldable pub rewrittenIn : List Report → ℕ
 rewrittenIn vs = sumOf (λ v. rewrittenBy (v .outcome) (v .flagged)) vs

@@ -3,9 +3,9 @@ ghost use mathlib.Core.Path.{_≡_};
 ghost use Prim.Native.Nat.{_+_, _*_, _≤_};
 ghost use lib.ListN.{length};
 ghost use Rattle.cells.specs.Cells.{chips, dataBytes, lineBytes, lineOf};
-ghost use Rattle.line.specs.Visit.{bytesAfter, reportOf};
+ghost use Rattle.line.specs.Visit.{ifAnswered, bytesAfter, reportOf};
 ghost use Rattle.memory.specs.Lines.{lineAt, withLine};
-ghost use Rattle.visits.specs.Visits.{foundLine, bufferBy, wordsAfter, visitedOf};
+ghost use Rattle.visits.specs.Visits.{foundLine, wordsAfter, visitedOf};
 use crate::visit;
 use cells::CHIPS;
 use line::Outcome;
@@ -32,7 +32,7 @@ pub fn visit_into(
     ensures memory { λ _. ⌜ now (memory .exit)
         ≡ withLine (now (memory .entry)) line (bytesAfter (lineAt (now (memory .entry)) line) (now («catch_words» .entry))) ⌝ }
     ensures buffer { λ _. ⌜ now (buffer .exit)
-        ≡ bufferBy (reportOf (lineAt (now (memory .entry)) line) (now («catch_words» .entry)) .outcome)
+        ≡ ifAnswered (reportOf (lineAt (now (memory .entry)) line) (now («catch_words» .entry)) .outcome)
         (foundLine (lineAt (now (memory .entry)) line) (now («catch_words» .entry))) (now (buffer .entry)) ⌝ }
 {
     // A visit would change nothing.
@@ -59,7 +59,7 @@ pub fn visit_into(
 // Puts a line's 64 bytes in a buffer if the visit to it is answered.
 fn copy_answered(outcome: Outcome, memory: &[u8], line: u32, buffer: &mut [u8])
     requires { ⌜ (lineBytes * line + lineBytes ≤ length (now memory)) × (length (now buffer) ≡ dataBytes) ⌝ }
-    ensures { λ _. ⌜ now (buffer .exit) ≡ bufferBy outcome (lineOf (lineAt (now (memory .entry)) line)) (now (buffer .entry)) ⌝ }
+    ensures { λ _. ⌜ now (buffer .exit) ≡ ifAnswered outcome (lineOf (lineAt (now (memory .entry)) line)) (now (buffer .entry)) ⌝ }
 {
     let Outcome::Answered = outcome else {
         return;

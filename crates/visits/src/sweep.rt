@@ -7,7 +7,7 @@ ghost use lib.ListN.{length};
 ghost use Rattle.cells.specs.Cells.{lineBytes};
 ghost use Rattle.record.specs.Record.{lineLimit, taskLimit};
 ghost use Rattle.visits.specs.Runs.{outs, end, upFrom};
-ghost use Rattle.visits.specs.Visits.{device, visitOf, isRefused, rewrittenBy, refusedIn, rewrittenIn};
+ghost use Rattle.visits.specs.Visits.{device, visitOf, refusedBy, rewrittenBy, refusedIn, rewrittenIn};
 use crate::visit;
 use line::Outcome;
 use line::Report;
@@ -68,7 +68,7 @@ pub fn sweep(rank: Rank, memory: &mut [u8], task: u32, first: u32, n: u32) -> Ta
 // The counts after one visit more, by its report.
 fn with_visit(counts: Counts, report: Report) -> Counts
     requires { ⌜ (counts .refused + 1 < 2 ^ 32) × (counts .rewritten + ones (report .flagged) < 2 ^ 32) ⌝ }
-    ensures refused { λ r. ⌜ r .refused ≡ counts .refused + isRefused (report .outcome) ⌝ }
+    ensures refused { λ r. ⌜ r .refused ≡ counts .refused + refusedBy (report .outcome) ⌝ }
     ensures rewritten { λ r. ⌜ r .rewritten ≡ counts .rewritten + rewrittenBy (report .outcome) (report .flagged) ⌝ }
 {
     let outcome = report.outcome;

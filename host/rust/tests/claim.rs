@@ -9,7 +9,7 @@ use lemtskavo::ffi::Rank;
 use model::code::{self, Cell, Status};
 use model::device;
 use model::plain::{weight, Line, Plain};
-use support::{lend, record_of, told_before, Call, Guarded, Outcome, Random, Tally, Trace, FAR_TASKS, STEP_5};
+use support::{lend, record_of, statuses_before, Call, Guarded, Outcome, Random, Tally, Trace, FAR_TASKS, STEP_5};
 
 /// The step by which a colliding catch-word grows; used only to choose catch-words that meet data after moves.
 const STEP: u64 = 0x9E37_79B9_7F4A_7C15;
@@ -260,11 +260,11 @@ fn run(list: &[(Call, Answer)], end: &[u8], catch_words: [u64; 9], tally: &mut T
     assert_eq!(booted.refusal, 0);
     let mut rank = booted.rank;
     for (place, (call, answer)) in list.iter().enumerate() {
-        let told = told_before(call, memory.inside());
+        let statuses = statuses_before(call, memory.inside());
         let outcome = call.on_library(rank, &mut memory);
         tally.call(call.row(), outcome.refusal);
         assert_eq!(compared(call, &outcome), *answer, "call {place}: {call:?}\nwith {rank:?}");
-        tally.step_5(told, &outcome);
+        tally.step_5(statuses, &outcome);
         count(call, &rank, &outcome, tally);
         rank = outcome.rank;
     }

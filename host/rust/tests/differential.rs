@@ -5,7 +5,7 @@ mod support;
 use lemtskavo::ffi::Rank;
 use model::code::{self, Status};
 use model::device::{self, Record};
-use support::{lend, rank_of, record_of, told_before, Call, Guarded, Outcome, Random, Tally, Trace, CALLS, FAR_TASKS, POSSIBLE, STEP_5};
+use support::{lend, rank_of, record_of, statuses_before, Call, Guarded, Outcome, Random, Tally, Trace, CALLS, FAR_TASKS, POSSIBLE, STEP_5};
 
 const STEP: u64 = Record::STEP;
 
@@ -95,12 +95,12 @@ impl Twin {
     /// Makes one call on both and compares all that comes back and all that is lent.
     fn call(&mut self, call: &Call, tally: &mut Tally) -> Outcome {
         let given = self.rank;
-        let told = told_before(call, &self.model);
+        let statuses = statuses_before(call, &self.model);
         let outcome = call.on_library(given, &mut self.library);
         let expected = on_model(call, given, &mut self.model);
         tally.call(call.row(), outcome.refusal);
         assert_eq!(outcome, expected, "{call:?}\nwith {given:?}");
-        tally.step_5(told, &outcome);
+        tally.step_5(statuses, &outcome);
         assert!(self.library.inside() == self.model, "{call:?}\nwith {given:?}: the memories differ");
         self.rank = outcome.rank;
         outcome
@@ -582,7 +582,7 @@ fn the_code_has_the_examples_of_document_01() {
         assert_eq!(code::position(check), code::NO_POSITION);
     }
     assert_eq!(code::position(0xBF), 71);
-    // Mending a check bit leaves the word, so only the table itself shows the positions below 8.
+    // Mending a check bit leaves the word, so that a mended word does not show the positions below 8.
     for position in 0..72 {
         let cell = one_bit(position).try_into().unwrap();
         assert_eq!(usize::from(code::position(code::syndrome(&cell))), position);

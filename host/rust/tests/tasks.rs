@@ -5,7 +5,7 @@ mod model;
 mod support;
 
 use lemtskavo::ffi::Rank;
-use support::{lend, told_before, Call, Guarded, Outcome, Random, Tally, Trace, FAR_TASKS, STEP_5};
+use support::{lend, statuses_before, Call, Guarded, Outcome, Random, Tally, Trace, FAR_TASKS, STEP_5};
 
 /// Bytes that lines are filled with; eight of one byte are a catch-word too, so that they meet.
 const FILLERS: [u8; 4] = [0x00, 0x11, 0xEE, 0xFF];
@@ -68,10 +68,10 @@ impl Booted {
     }
 
     fn call(&mut self, call: &Call, tally: &mut Tally) -> Outcome {
-        let told = told_before(call, self.memory.inside());
+        let statuses = statuses_before(call, self.memory.inside());
         let outcome = call.on_library(self.rank, &mut self.memory);
         tally.call(call.row(), outcome.refusal);
-        tally.step_5(told, &outcome);
+        tally.step_5(statuses, &outcome);
         self.rank = outcome.rank;
         outcome
     }

@@ -11,7 +11,7 @@ use Rattle.passes.specs.Passes.{isFlagged, isUnsound}
 use Rattle.passes.specs.declared.syndromes.Syndromes.{Syndromes}
 use Rattle.passes.specs.Syndromes.{syndromesOf, syndromeIn}
 use Rattle.passes.specs.SyndromeLaws.{unsound-mask}
-use Rattle.line.proofs.Steps.{passes-made, full-report, refused-bytes, answered-bytes}
+use Rattle.line.proofs.Steps.{passes-made, full-report, written-bytes}
 use borrow.Author.Needs.{needs}
 use Rattle.line.proofs.visit.Statement.{statement}
 use Rattle.line.proofs.visit.Tie as tie
@@ -33,42 +33,29 @@ resolve-requires c κs =
     let s = c .before .before .before .before .before .before .before .before .before .before .before .before in
     ((s .pre .0, s .pre .1, refl, refl), (c .before .before .before .before .before .before .before .before .before .of-line .ensures, (c .before .before .before .before .before .before .pass .ensures .1, c .before .before .before .before .pass2 .ensures)))
 
-returns : tie.Need-returns
-returns c =
-    let x = c .before .before .before .before .before .before .before .before .before .before .before .before .before .before .before .args in
-    let m = x .line .now in
-    let cws = x .catch-words .now in
-    let flagged = c .before .before .before .before .before .before .before .pass2 .ensures in
-    let candidates = c .before .before .before .before .before .before .before .before .before .pass .ensures .0 in
-    let found = c .before .before .resolve .ensures in (
-      full-report m cws flagged (found .0) candidates (passes-made m cws candidates flagged (c .before .before .before .before .before .before .passes-made .ensures)),
-      refused-bytes m cws flagged (found .0) (c .enum-told2 .given .1),
-    )
-
-write-back-requires : tie.Need-write-back-requires
-write-back-requires c κs =
-    let s = c .before .before .before .before .before .before .before .before .before .before .before .before .before .before .before .before .before .before in
-    let flagged = c .before .before .before .before .before .before .before .before .before .before .pass2 .ensures in
-    let found = c .before .before .before .before .before .resolve .ensures in
-    let p = isFlagged (s .args .line .now) (s .args .catch-words .now) in
-    let checked = found .1 .1 .0 (c .before .before .before .enum-told .given .1) in (
+write-answered-requires : tie.Need-write-answered-requires
+write-answered-requires c κs =
+    let s = c .before .before .before .before .before .before .before .before .before .before .before .before .before .before .before .before in
+    let flagged = c .before .before .before .before .before .before .before .before .pass2 .ensures in
+    let found = c .before .before .before .resolve .ensures in
+    let p = isFlagged (s .args .line .now) (s .args .catch-words .now) in (
       (s .pre .0, found .1 .1 .1 .0, found .1 .1 .1 .1),
       (
         subst⁻¹ (λ (x : ℕ). x < 2 ^ 9) flagged (mask-lt p 9),
-        record { at = λ k l t. checked .at k l (sym (member-is p flagged l refl) ∙ t) },
+        λ a. record { at = λ k l t. found .1 .1 .0 a .at k l (sym (member-is p flagged l refl) ∙ t) },
       ),
     )
 
-returns-2 : tie.Need-returns-2
-returns-2 c =
-    let x = c .before .before .before .before .before .before .before .before .before .before .before .before .before .before .before .before .before .before .before .before .before .args in
+returns : tie.Need-returns
+returns c =
+    let x = c .before .before .before .before .before .before .before .before .before .before .before .before .before .before .before .before .before .before .before .args in
     let m = x .line .now in
     let cws = x .catch-words .now in
-    let flagged = c .before .before .before .before .before .before .before .before .before .before .before .before .before .pass2 .ensures in
-    let candidates = c .before .before .before .before .before .before .before .before .before .before .before .before .before .before .before .pass .ensures .0 in
-    let found = c .before .before .before .before .before .before .before .before .resolve .ensures in (
-      full-report m cws flagged (found .0) candidates (passes-made m cws candidates flagged (c .before .before .before .before .before .before .before .before .before .before .before .before .passes-made .ensures)),
-      answered-bytes m cws flagged (found .0) (c .before .before .before .before .before .before .enum-told .given .1) _ (found .1 .0) (c .before .before .write-back .ensures),
+    let flagged = c .before .before .before .before .before .before .before .before .before .before .before .pass2 .ensures in
+    let candidates = c .before .before .before .before .before .before .before .before .before .before .before .before .before .pass .ensures .0 in
+    let found = c .before .before .before .before .before .before .resolve .ensures in (
+      full-report m cws flagged (found .0) candidates (passes-made m cws candidates flagged (c .before .before .before .before .before .before .before .before .before .before .passes-made .ensures)),
+      written-bytes m cws flagged (found .0) _ (found .1 .0) (c .before .before .write-answered .ensures),
     )
 
 pub visit-spec : {M : Type 1} → statement M
@@ -81,10 +68,6 @@ visit-spec =
     pass-requires-2
     (λ c κs. search needs)
     resolve-requires
+    write-answered-requires
     (λ c. search needs)
-    (λ c. search needs)
-    (λ c. search needs)
-    returns
-    write-back-requires
-    (λ c. search needs)
-    returns-2)
+    returns)

@@ -6,7 +6,7 @@ use mathlib.Core.Path.{_≡_, ap, _∙_}
 use mathlib.Core.List.{List}
 use lib.ListN.{length, take, drop}
 use Rattle.line.specs.Visit.{reportOf, bytesAfter}
-use Rattle.line.specs.VisitLaws.{length-after}
+use Rattle.line.specs.AnsweredLaws.{length-after}
 use Rattle.memory.specs.Lines.{lineAt}
 use Rattle.memory.specs.LineLaws.{length-lineAt}
 use Rattle.memory.proofs.Parts.{lent, put-back}

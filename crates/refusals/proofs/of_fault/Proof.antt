@@ -15,7 +15,8 @@ returns c =
     let lined : List ℕ = lineRefusals (a .rank) (a .memory .now) (a .line) in
     let chip : c .before .or-if .result ≡ firstOf (lined ++ (refusedIf (chipOut (a .chip)) 3 ∷ [])) =
     c .before .or-if .ensures ∙ first-more lined _ _ _ 3 (c .before .before .before .of-line .ensures) (c .before .before .chip-out .ensures) in
-    c .or-if2 .ensures ∙ first-more (lined ++ (refusedIf (chipOut (a .chip)) 3 ∷ [])) _ _ (patternOut (a .pattern .now)) 4 chip refl
+    let pattern : c .or-if2 .result ≡ firstOf (c .before .or-if .result ∷ refusedIf (patternOut (a .pattern .now)) 4 ∷ []) = c .or-if2 .ensures in
+    pattern ∙ first-more (lined ++ (refusedIf (chipOut (a .chip)) 3 ∷ [])) _ _ (patternOut (a .pattern .now)) 4 chip refl
 
 pub of-fault-spec : {M : Type 1} → statement M
 of-fault-spec =

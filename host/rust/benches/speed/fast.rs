@@ -57,15 +57,15 @@ pub extern "C" fn read(rank: Rank, memory: &mut [u8], task: u32, line: u32, buff
         return ReadResult { refusal: 2, passes: 0, flagged: 0, collisions: 0, rank };
     };
     let line = line_of(memory, line);
-    let mut seen = Seen { sum: words_xor(line), syndromes: None };
-    if seen.sum == 0 && rest_is_clean(line, &rank.catch_words, &mut seen) {
+    let mut scanned = Scanned { sum: words_xor(line), syndromes: None };
+    if scanned.sum == 0 && rest_is_clean(line, &rank.catch_words, &mut scanned) {
         take(line, buffer);
         return ReadResult { refusal: 0, passes: 1, flagged: 0, collisions: 0, rank };
     }
-    let Visit { refusal, passes, flagged, collisions } = visit(line, &rank.catch_words, seen);
+    let Visit { refusal, passes, flagged, collisions } = visit(line, &rank.catch_words, scanned);
     let mut answer = ReadResult { refusal, passes, flagged, collisions, rank };
     if refusal == 0 {
-        settle(&mut answer.rank, task, flagged, collisions);
+        move_and_count(&mut answer.rank, task, flagged, collisions);
         take(line, buffer);
     }
     answer
@@ -82,17 +82,17 @@ pub extern "C" fn patrol(rank: Rank, memory: &mut [u8], task: u32, first: u32, b
     let mut answer = PatrolResult { refusal: 0, visited, refused: 0, rewritten: 0, rank };
     let start = LINE_BYTES * first as usize;
     for line in memory[start..start + LINE_BYTES * visited as usize].as_chunks_mut().0 {
-        let mut seen = Seen { sum: words_xor(line), syndromes: None };
-        if seen.sum == 0 && rest_is_clean(line, &answer.rank.catch_words, &mut seen) {
+        let mut scanned = Scanned { sum: words_xor(line), syndromes: None };
+        if scanned.sum == 0 && rest_is_clean(line, &answer.rank.catch_words, &mut scanned) {
             continue;
         }
-        let visit = visit(line, &answer.rank.catch_words, seen);
+        let visit = visit(line, &answer.rank.catch_words, scanned);
         if visit.refusal != 0 {
             answer.refused += 1;
             continue;
         }
         answer.rewritten += visit.flagged.count_ones();
-        settle(&mut answer.rank, task, visit.flagged, visit.collisions);
+        move_and_count(&mut answer.rank, task, visit.flagged, visit.collisions);
     }
     answer
 }
@@ -193,21 +193,21 @@ fn words_xor(line: &Line) -> u64 {
 
 /// Whether a chip's word equals its catch-word.
 #[inline(always)]
-fn matches(line: &Line, catch_words: &[u64; 9], chip: usize) -> bool {
+fn equals_catch_word(line: &Line, catch_words: &[u64; 9], chip: usize) -> bool {
     word(line, chip).swap_bytes() == catch_words[chip]
 }
 
 /// What the test for a clean line has worked out: the xor of the nine words, and the syndromes of chips 0 to 7 if it came to them.
-struct Seen {
+struct Scanned {
     sum: u64,
     syndromes: Option<[u64; 2]>,
 }
 
 /// Whether a line whose nine words xor to zero is clean: nine codewords, none a catch-word. Chip 8 holds a codeword by linearity.
 #[inline(never)]
-fn rest_is_clean(line: &Line, catch_words: &[u64; 9], seen: &mut Seen) -> bool {
+fn rest_is_clean(line: &Line, catch_words: &[u64; 9], scanned: &mut Scanned) -> bool {
     for k in 0..9 {
-        if matches(line, catch_words, k) {
+        if equals_catch_word(line, catch_words, k) {
             return false;
         }
     }
@@ -224,7 +224,7 @@ fn rest_is_clean(line: &Line, catch_words: &[u64; 9], seen: &mut Seen) -> bool {
     if asked == [even, odd] {
         return true;
     }
-    seen.syndromes = Some([asked[0] ^ even, asked[1] ^ odd]);
+    scanned.syndromes = Some([asked[0] ^ even, asked[1] ^ odd]);
     false
 }
 
@@ -268,10 +268,10 @@ struct Visit {
 
 /// A visit to a line that is not clean. An answered line is repaired.
 #[inline(never)]
-fn visit(line: &mut Line, catch_words: &[u64; 9], seen: Seen) -> Visit {
-    let sum = seen.sum;
+fn visit(line: &mut Line, catch_words: &[u64; 9], scanned: Scanned) -> Visit {
+    let sum = scanned.sum;
     let sum_asks = check_byte(sum);
-    let lanes = seen.syndromes.unwrap_or_else(|| {
+    let lanes = scanned.syndromes.unwrap_or_else(|| {
         let mut lanes = [0; 2];
         syndromes(line, &mut lanes);
         lanes
@@ -283,19 +283,19 @@ fn visit(line: &mut Line, catch_words: &[u64; 9], seen: Seen) -> Visit {
     let syndrome = |chip: usize| if chip == 8 { last } else { (eight >> (8 * chip)) as u8 };
 
     let flagged = nonzero_bytes(eight) | u32::from(last != 0) << 8;
-    let mut matched = 0;
+    let mut equal = 0;
     // Most lines have no such word, and the mask is then not put together.
-    if (0..9).any(|k| matches(line, catch_words, k)) {
+    if (0..9).any(|k| equals_catch_word(line, catch_words, k)) {
         for k in 0..9 {
-            matched |= u32::from(matches(line, catch_words, k)) << k;
+            equal |= u32::from(equals_catch_word(line, catch_words, k)) << k;
         }
     }
-    let collisions = matched & !flagged;
-    let seen = |refusal, passes| Visit { refusal, passes, flagged, collisions };
+    let collisions = equal & !flagged;
+    let report = |refusal, passes| Visit { refusal, passes, flagged, collisions };
 
     if flagged == 0 {
         let passes = if collisions == 0 { 1 } else { 2 };
-        return seen(if sum == 0 { 0 } else { 20 }, passes);
+        return report(if sum == 0 { 0 } else { 20 }, passes);
     }
     // A chip is rebuilt by the xor of the nine words and the check byte of that xor.
     let rebuild = |line: &mut Line, chip: usize, sum: u64, sum_asks: u8| {
@@ -304,7 +304,7 @@ fn visit(line: &mut Line, catch_words: &[u64; 9], seen: Seen) -> Visit {
     };
     if flagged & (flagged - 1) == 0 {
         rebuild(line, flagged.trailing_zeros() as usize, sum, sum_asks);
-        return seen(0, 2);
+        return report(0, 2);
     }
     // What mending changes, and what it leaves of the xor and of its check byte. A chip beyond mending sends its word as it is.
     let mut changes = [0; 9];
@@ -319,7 +319,7 @@ fn visit(line: &mut Line, catch_words: &[u64; 9], seen: Seen) -> Visit {
         left_asks ^= if change == 0 { 0 } else { syndrome(chip) };
     }
     if beyond & beyond.wrapping_sub(1) != 0 || beyond == 0 && left != 0 {
-        return seen(21, 3);
+        return report(21, 3);
     }
     for chip in chips(flagged & !beyond) {
         set_word(line, chip, word(line, chip) ^ changes[chip]);
@@ -329,7 +329,7 @@ fn visit(line: &mut Line, catch_words: &[u64; 9], seen: Seen) -> Visit {
     if beyond != 0 {
         rebuild(line, beyond.trailing_zeros() as usize, left, left_asks);
     }
-    seen(0, 3)
+    report(0, 3)
 }
 
 /// The chips of a mask, upwards.
@@ -357,7 +357,7 @@ fn nonzero_bytes(bytes: u64) -> u32 {
 
 /// The record after an answered visit: colliding chips' catch-words moved, repairs counted for the task.
 #[inline(always)]
-fn settle(rank: &mut Rank, task: u32, flagged: u32, collisions: u32) {
+fn move_and_count(rank: &mut Rank, task: u32, flagged: u32, collisions: u32) {
     for chip in chips(collisions) {
         let moved = rank.catch_words[chip].wrapping_add(STEP);
         rank.catch_words[chip] = moved;

@@ -174,8 +174,8 @@ impl Bench {
         for round in 0..ROUNDS {
             let part = round * PART % self.lines..round * PART % self.lines + PART;
             let damage = self.damage(work, part.clone());
-            hurt::<Library>(&mut self.library, &damage);
-            hurt::<Fast>(&mut self.fast, &damage);
+            lay_faults::<Library>(&mut self.library, &damage);
+            lay_faults::<Fast>(&mut self.fast, &damage);
             let a = timed::<Library>(work, &mut self.library, &self.data, part.clone());
             let b = timed::<Fast>(work, &mut self.fast, &self.data, part.clone());
             let bytes = bytes_of(&part);
@@ -189,7 +189,7 @@ impl Bench {
         println!("| {:<35} | {:>6} | {library:>7.1} | {fast:>9.1} | {copy:>5.1} | {ratio:>17.2} |", work.name(), self.lines);
     }
 
-    /// The faults of one round, the same for both sides: every line of the part is hit.
+    /// The faults of one round, the same for both sides: every line of the part has them.
     fn damage(&mut self, work: Work, part: Range<u32>) -> Vec<Damage> {
         let mut list = vec![];
         for line in part {
@@ -236,9 +236,9 @@ fn fill<S: Side>(booted: &mut Booted, data: &[[u8; 64]]) {
     }
 }
 
-fn hurt<S: Side>(booted: &mut Booted, damage: &[Damage]) {
-    for hit in damage {
-        booted.rank = S::fault(booted.rank, &mut booted.memory, hit.line, hit.chip, &hit.pattern).rank;
+fn lay_faults<S: Side>(booted: &mut Booted, damage: &[Damage]) {
+    for fault in damage {
+        booted.rank = S::fault(booted.rank, &mut booted.memory, fault.line, fault.chip, &fault.pattern).rank;
     }
 }
 

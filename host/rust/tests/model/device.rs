@@ -94,7 +94,7 @@ fn pass(enable: bool, registers: &[u64; 9], memory: &[u8], line: u32) -> [u64; 9
 }
 
 /// What the nine chips of a line tell "for each word sent with Enable clear" (Req 02).
-pub fn told(memory: &[u8], line: u32) -> [Status; 9] {
+pub fn statuses(memory: &[u8], line: u32) -> [Status; 9] {
     std::array::from_fn(|chip| code::status(&held(memory, line, chip)))
 }
 
@@ -106,19 +106,19 @@ fn rebuilt(mut words: [u64; 9], chip: usize) -> [u64; 9] {
     words
 }
 
-/// Step 5 after pass three: the flagged chips, what the nine sent and what they told. It gives the line's words, or 21.
+/// Step 5 after pass three: the flagged chips, what the nine sent and their statuses. It gives the line's words, or 21.
 type AfterPassThree = fn(u32, [u64; 9], [Status; 9]) -> Result<[u64; 9], u32>;
 
 /// "A visit to a line", step 5, by Req 02.
-fn step_5(flagged: u32, sent: [u64; 9], told: [Status; 9]) -> Result<[u64; 9], u32> {
-    let beyond: Vec<usize> = (0..9).filter(|&chip| flagged >> chip & 1 == 1 && told[chip] == Status::Beyond).collect();
+fn step_5(flagged: u32, sent: [u64; 9], statuses: [Status; 9]) -> Result<[u64; 9], u32> {
+    let beyond: Vec<usize> = (0..9).filter(|&chip| flagged >> chip & 1 == 1 && statuses[chip] == Status::Beyond).collect();
     match beyond[..] {
         // "If just one flagged chip is beyond mending, its word is the xor of the other eight."
         [chip] => Ok(rebuilt(sent, chip)),
         // "If two or more are, the visit is refused 21."
         [_, _, ..] => Err(21),
         // "Otherwise the words must xor to zero as before."
-        [] => document_01_step_5(flagged, sent, told),
+        [] => document_01_step_5(flagged, sent, statuses),
     }
 }
 
@@ -171,7 +171,7 @@ fn look(step_5: AfterPassThree, record: &Record, memory: &[u8], line: u32) -> Vi
         // Step 5.
         _ => {
             visit.passes = 3;
-            step_5(visit.flagged, pass(false, &catch_words, memory, line), told(memory, line))
+            step_5(visit.flagged, pass(false, &catch_words, memory, line), statuses(memory, line))
         }
     };
     visit

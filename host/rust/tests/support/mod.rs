@@ -259,9 +259,9 @@ pub const STEP_5: [&str; 4] = [
 ];
 
 /// What the nine chips of the line of a read tell before it; nothing for other calls and other lines.
-pub fn told_before(call: &Call, memory: &[u8]) -> Option<[Status; 9]> {
+pub fn statuses_before(call: &Call, memory: &[u8]) -> Option<[Status; 9]> {
     match call {
-        Call::Read { line, .. } if (*line as usize) < memory.len() / 81 => Some(device::told(memory, *line)),
+        Call::Read { line, .. } if (*line as usize) < memory.len() / 81 => Some(device::statuses(memory, *line)),
         _ => None,
     }
 }
@@ -299,10 +299,10 @@ impl Tally {
         *self.cases.entry(name).or_default() += 1;
     }
 
-    /// Counts which case of step 5 a read came to, by what the chips told before it.
-    pub fn step_5(&mut self, told: Option<[Status; 9]>, outcome: &Outcome) {
-        let Some(told) = told.filter(|_| outcome.counts[0] == 3) else { return };
-        let beyond = told.iter().filter(|status| **status == Status::Beyond).count();
+    /// Counts which case of step 5 a read came to, by the statuses of the chips before it.
+    pub fn step_5(&mut self, statuses: Option<[Status; 9]>, outcome: &Outcome) {
+        let Some(statuses) = statuses.filter(|_| outcome.counts[0] == 3) else { return };
+        let beyond = statuses.iter().filter(|status| **status == Status::Beyond).count();
         self.case(match (beyond, outcome.refusal) {
             (0, 0) => STEP_5[0],
             (0, 21) => STEP_5[1],

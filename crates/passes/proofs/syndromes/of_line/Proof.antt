@@ -5,7 +5,7 @@ use lib.Bits.{bitXor}
 use Rattle.code.specs.Code.{cell, syndromeOf}
 use Rattle.cells.specs.Cells.{wordAt, cellAt}
 use Rattle.cells.specs.Checks.{wordEvery}
-use Rattle.words.specs.ByteLaws.{Bytes}
+use Rattle.words.specs.Bytes.{Bytes}
 use Rattle.passes.specs.Syndromes.{syndromesOf}
 use Rattle.passes.specs.SyndromeLaws.{made-other}
 use borrow.Author.Needs.{needs}

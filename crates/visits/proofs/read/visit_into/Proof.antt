@@ -2,7 +2,7 @@
 use mathlib.Core.Path.{sym, ap, _∙_}
 use Prim.Native.Nat.{ℕ}
 use native.Mathlib.Omega.{arith}
-use Rattle.words.specs.ByteLaws.{Bytes}
+use Rattle.words.specs.Bytes.{Bytes}
 use Rattle.visits.specs.Visits.{visitedOf}
 use Rattle.visits.specs.VisitLaws.{length-visited}
 use Rattle.visits.specs.ReadLaws.{visited-buffer, clean-visited, clean-words, clean-kept, clean-buffer}

@@ -16,7 +16,7 @@ use Rattle.memory.specs.LineLaws.{length-lineAt}
 use Rattle.visits.specs.declared.sweep.Counts.{Counts}
 use Rattle.visits.specs.declared.sweep.Tally.{Tally}
 use Rattle.visits.specs.Runs.{outs, end, upFrom}
-use Rattle.visits.specs.Visits.{device, visitOf, isRefused, rewrittenBy, refusedIn, rewrittenIn}
+use Rattle.visits.specs.Visits.{device, visitOf, refusedBy, rewrittenBy, refusedIn, rewrittenIn}
 use Rattle.visits.specs.SweepLaws.{Swept, swept-none, Moves, parts-visited, moves-clean, visit-flags, swept-more, all-refused, all-rewritten, all-ended}
 use borrow.Author.Needs.{needs}
 use borrow.Author.Tests.{not-false}
@@ -34,10 +34,10 @@ Inv-loop memory₀ task first n lines catch-words₀ totals₀ counts₀ i₀ me
 abbrev μ-loop : tie.MeasureT-loop
 μ-loop memory₀ task first n lines catch-words₀ totals₀ counts₀ i₀ memory catch-words totals counts i = n - i
 
--- what the record's type says of the task's total
-total : (x : tie.Start Inv-loop μ-loop) → getD (x .args .rank .repairs) (x .args .task) 0 ≤ totalLimit
-total x =
-    let fits : Fits w32 (getD (x .args .rank .repairs) (x .args .task) 0) = search needs in
+-- what the record's type says of the totals
+total : (x : tie.Start Inv-loop μ-loop) (i : ℕ) → getD (x .args .rank .repairs) i 0 ≤ totalLimit
+total x i =
+    let fits : Fits w32 (getD (x .args .rank .repairs) i 0) = search needs in
     omega (arith, fits .fits)
 
 words : (x : tie.Start Inv-loop μ-loop) → length (x .args .rank .«catch_words») ≡ 9
@@ -59,7 +59,7 @@ visit-requires c κs = let inv = c .before .before .before .before .before .befo
 
 count-requires : tie.Need-count-requires Inv-loop μ-loop
 unfolding accepted
-count-requires c κs = (c .before .before .before .before .before .before .before .before .before .before .before .before .before .before .before .before .pre .3, c .before .before .before .before .before .before .before .before .before .before .before .before .loop .inv .total)
+count-requires c κs = (omega (arith, c .before .before .before .before .before .before .before .before .before .before .before .before .before .before .before .before .pre .3), c .before .before .before .before .before .before .before .before .before .before .before .before .loop .inv .total _)
 
 with-visit-requires : tie.Need-with-visit-requires Inv-loop μ-loop
 unfolding accepted
@@ -81,7 +81,7 @@ moves c =
     let v = w .3 .ensures in
     record {
       refused =
-          ap (λ (k : Counts). k .refused) (w .13) ∙ w .9 .ensures .0 ∙ ap (λ (q : Report). l .counts .refused + isRefused (q .outcome)) (v .0);
+          ap (λ (k : Counts). k .refused) (w .13) ∙ w .9 .ensures .0 ∙ ap (λ (q : Report). l .counts .refused + refusedBy (q .outcome)) (v .0);
       rewritten =
           ap (λ (k : Counts). k .rewritten) (w .13) ∙ w .9 .ensures .1
           ∙ ap (λ (q : Report). l .counts .rewritten + rewrittenBy (q .outcome) (q .flagged)) (v .0);
@@ -91,7 +91,7 @@ moves c =
     })
     (λ w.
     let clean : c .before .is-clean .result ≡ true = search (not-false, w .0 .left) in
-    moves-clean (length-lineAt _ _ (omega (arith, inv .size))) (sym (c .before .is-clean .ensures) ∙ clean) (inv .words) (inv .words) (inv .total)
+    moves-clean (length-lineAt _ _ (omega (arith, inv .size))) (sym (c .before .is-clean .ensures) ∙ clean) (inv .words) (inv .words) (inv .total _)
     (λ i. tally (a .rank .lines) (w .2 i) (w .3 i) (w .4 i)) (w .1))
     (c .if1 .came)
 

@@ -1,0 +1,80 @@
+-- That the plain memory gets no catch-words; and what follows from demand 3 for a read or a visit after any list under the premise, each as
+-- one statement. m is the memory lent to boot, cws are its catch-words, cs the calls of the list, and l is a line's number.
+-- Definitions alone; the theorems are in `proofs/Corollaries.antt`, that of the first in `proofs/PlainCalls.antt`.
+use mathlib.Core.Path.{_≡_}
+use mathlib.Core.Bool.{true}
+use mathlib.Core.List.{List, [], _∷_}
+use Prim.Native.Nat.{ℕ, _/_, _<_}
+use lib.ListN.{length}
+use Rattle.code.specs.Code.{isCodeword}
+use Rattle.words.specs.Bytes.{Bytes, numberOf}
+use Rattle.line.specs.FormerVisit.{formerOutcome, AsBefore}
+use Rattle.line.specs.declared.Outcome.the-variants.{Answered}
+use Rattle.memory.specs.Lines.{lineAt}
+use Rattle.visits.specs.Runs.{outs, end}
+use Rattle.visits.specs.Visits.{Device}
+use Rattle.rank.specs.Calls.{readOf}
+use Rattle.claims.specs.Lists.{Call, write, read, renew, fault, done, line, deviceCall}
+use Rattle.claims.specs.Plain.{Line, Plain, plainRefusal, plainCall}
+use Rattle.claims.specs.Premises.{Premise, PremiseBy}
+use Rattle.claims.specs.Claim.{bootedDevice, bootedPlain, UnderPremise}
+use Rattle.claims.specs.Damages.{OneChip, Narrow, OneBeyond}
+
+-- the plain memory gets no catch-words: it does not look at the word of a renew
+abbrev pub RenewWordUnused : Type 0
+RenewWordUnused = (p : Plain) (k w v : ℕ) → plainCall p (renew k w) ≡ plainCall p (renew k v)
+
+-- a read that 31, 1 and 2 don't refuse
+pub record ReadsLine (m : List ℕ) (task l : ℕ) (b : List ℕ) : Type 0 where
+  pub named : task < 8
+  pub below : l < length m / 81
+  pub room : length b ≡ 64
+
+-- the device and the plain memory after the list
+abbrev pub deviceAfter : List ℕ → List ℕ → List Call → Device
+deviceAfter m cws cs = end deviceCall (bootedDevice m cws) cs
+
+abbrev pub plainAfter : List ℕ → List Call → Plain
+plainAfter m cs = end plainCall (bootedPlain m) cs
+
+-- where a line's damage is such, a read of it after the list answers the line written
+abbrev pub AnswersIf : (Line → Type 0) → Type 0
+AnswersIf Such =
+    (m cws : List ℕ) (cs : List Call) → UnderPremise m cws cs → (task l : ℕ) (b : List ℕ) → ReadsLine m task l b
+    → Such (plainAfter m cs .plainLine l)
+    → deviceCall (deviceAfter m cws cs) (read task l b) .out ≡ line (plainAfter m cs .plainLine l .bytes)
+
+-- one damaged chip, whose damage is no codeword
+abbrev pub OneChipAnswers : Type 0
+OneChipAnswers = (k : ℕ) → AnswersIf (λ x. OneChip x k)
+
+-- no chip with more than one bad bit
+abbrev pub OneBitAnswers : Type 0
+OneBitAnswers = AnswersIf Narrow
+
+-- one chip beyond mending, and no other with more than one bad bit
+abbrev pub OneBeyondAnswers : Type 0
+OneBeyondAnswers = (k : ℕ) → AnswersIf (λ x. OneBeyond x k)
+
+-- what is written, then damaged in one chip by a pattern that is zero or no codeword, is read back, after any list
+abbrev pub OneFaultAnswers : Type 0
+OneFaultAnswers =
+    (m cws : List ℕ) (cs : List Call) → UnderPremise m cws cs → (task l k : ℕ) (b q buffer : List ℕ) → ReadsLine m task l buffer
+    → k < 9 → length b ≡ 64 → Bytes b → length q ≡ 9 → Bytes q → (isCodeword (numberOf q) ≡ true → numberOf q ≡ 0)
+    → outs deviceCall (deviceAfter m cws cs) (write l b ∷ fault l k q ∷ read task l buffer ∷ []) ≡ done ∷ done ∷ line b ∷ []
+
+-- under the premise an answered read never gives another line: its buffer holds the line written
+abbrev pub AnsweredReadLine : Type 0
+AnsweredReadLine =
+    (m cws : List ℕ) (cs : List Call) → UnderPremise m cws cs → (task l : ℕ) (b : List ℕ)
+    → PremiseBy (plainRefusal (plainAfter m cs .lines) (read task l b)) (plainAfter m cs) (read task l b)
+    → readOf (deviceAfter m cws cs .rank) (deviceAfter m cws cs .memory) task l b .result .refusal ≡ 0
+    → readOf (deviceAfter m cws cs .rank) (deviceAfter m cws cs .memory) task l b .buffer ≡ plainAfter m cs .plainLine l .bytes
+
+-- Document 02, Req 02: under the premise, a visit that answered by document 01's step 5 reports, finds and leaves the same now, whatever the
+-- catch-words. So each visit of a patrol is meant too: the visits before it change the record and other lines, and not this line.
+abbrev pub AnsweredBefore : Type 0
+AnsweredBefore =
+    (m cws : List ℕ) (cs : List Call) → UnderPremise m cws cs → (l : ℕ) (words : List ℕ) → l < length m / 81
+    → Premise (plainAfter m cs .plainLine l) → formerOutcome (lineAt (deviceAfter m cws cs .memory) l) words ≡ Answered
+    → AsBefore (lineAt (deviceAfter m cws cs .memory) l) words
