@@ -17,7 +17,7 @@ enum { MAP_TASK = 0, PATROL_TASK = 1 };
 /* What a refusal asks of the caller. */
 typedef enum { FINE, CALLER_ERROR, RANK_LOST, LINE_LOST } Kind;
 
-static uint8_t memory[LINES * RANK_LINE_BYTES];
+static uint8_t memory[RANK_MEMORY_BYTES(LINES)];
 static Rank rank;
 
 /* Where a lost line is taken from: on a flash card, the copy on flash. */
@@ -36,39 +36,19 @@ static void expect(bool met, const char *what) {
     }
 }
 
-/* Words for every refusal. */
-static const char *refusal_words(uint32_t refusal) {
-    switch (refusal) {
-    case RANK_OK: return "carried out";
-    case RANK_LINE: return "the rank has no such line";
-    case RANK_BUFFER: return "the line buffer is not 64 bytes";
-    case RANK_CHIP: return "the rank has no such chip";
-    case RANK_PATTERN: return "the pattern is not 9 bytes";
-    case RANK_CATCH_WORDS: return "there are not nine catch-words";
-    case RANK_TASK: return "there are no tasks but 0 to 7";
-    case RANK_BOOT_MEMORY: return "the memory is empty, no multiple of 81 bytes, or over 65,536 lines";
-    case RANK_NOT_READY: return "the record is not that of a booted rank";
-    case RANK_MEMORY_LENGTH: return "the memory has not the length that it had at boot";
-    case RANK_REGISTERS: return "a chip's register differs from its catch-word";
-    case RANK_PARITY: return "no chip knows that it is bad, but the nine words don't fit together";
-    case RANK_MENDED: return "two chips or more can't mend their words, or the mended words don't fit together";
-    default: return "no refusal of this library";
-    }
-}
-
-static Kind kind_of(uint32_t refusal) {
+static Kind kind_of(RankRefusal refusal) {
     switch (refusal) {
     case RANK_OK: return FINE;
-    case RANK_NOT_READY:
-    case RANK_REGISTERS: return RANK_LOST;
-    case RANK_PARITY:
-    case RANK_MENDED: return LINE_LOST;
+    case RANK_REFUSED_NOT_READY:
+    case RANK_REFUSED_REGISTER_DIFFERS: return RANK_LOST;
+    case RANK_REFUSED_UNLOCATED:
+    case RANK_REFUSED_UNCORRECTABLE: return LINE_LOST;
     default: return CALLER_ERROR;
     }
 }
 
 static void boot(void) {
-    Called called = rank_boot(memory, sizeof memory, catch_words, RANK_CHIPS);
+    RankCalled called = rank_boot(memory, sizeof memory, catch_words, RANK_CHIPS);
     expect(called.refusal == RANK_OK, "boot");
     rank = called.rank;
     printf("boot: %u lines\n", (unsigned)rank.lines);
@@ -76,15 +56,15 @@ static void boot(void) {
 
 /* Puts the copy of a line in the rank. */
 static void restore(uint32_t line) {
-    Called called = rank_write(rank, memory, sizeof memory, line, copy[line], RANK_DATA_BYTES);
+    RankCalled called = rank_write(rank, memory, sizeof memory, line, copy[line], RANK_DATA_BYTES);
     rank = called.rank;
     expect(called.refusal == RANK_OK, "write");
     printf("line %u: written\n", (unsigned)line);
 }
 
 /* Says why a call was refused and does what that kind of refusal asks for. `line` is the line of that call. */
-static void act_on(uint32_t refusal, uint32_t line) {
-    printf("refused with %u: %s\n", (unsigned)refusal, refusal_words(refusal));
+static void act_on(RankRefusal refusal, uint32_t line) {
+    printf("refused with %u: %s\n", (unsigned)refusal, rank_refusal_text(refusal));
     switch (kind_of(refusal)) {
     case FINE: break;
     case CALLER_ERROR: printf("  an error in the call: nothing has changed, correct the program\n"); break;
@@ -111,7 +91,7 @@ static void print_chips(uint32_t mask) {
 }
 
 /* Says what an answered read found. */
-static void tell(uint32_t line, const ReadResult *read) {
+static void tell(uint32_t line, const RankRead *read) {
     bool one = (read->flagged & (read->flagged - 1)) == 0;
     printf("line %u: ", (unsigned)line);
     if (read->flagged == 0) {
@@ -138,9 +118,9 @@ static void tell(uint32_t line, const ReadResult *read) {
  * Reads a line for the map task, acts on a refusal, and returns what the call returned. An answered line has to be the
  * copy's.
  */
-static ReadResult look(uint32_t line) {
+static RankRead look(uint32_t line) {
     uint8_t buffer[RANK_DATA_BYTES];
-    ReadResult read = rank_read(rank, memory, sizeof memory, MAP_TASK, line, buffer, sizeof buffer);
+    RankRead read = rank_read(rank, memory, sizeof memory, MAP_TASK, line, buffer, sizeof buffer);
     rank = read.rank;
     if (read.refusal != RANK_OK) {
         act_on(read.refusal, line);
@@ -152,7 +132,7 @@ static ReadResult look(uint32_t line) {
 }
 
 static void damage(uint32_t line, uint32_t chip, const uint8_t pattern[RANK_PATTERN_BYTES]) {
-    Called called = rank_fault(rank, memory, sizeof memory, line, chip, pattern, RANK_PATTERN_BYTES);
+    RankCalled called = rank_fault(rank, memory, sizeof memory, line, chip, pattern, RANK_PATTERN_BYTES);
     rank = called.rank;
     expect(called.refusal == RANK_OK, "fault");
 }
@@ -167,7 +147,7 @@ static const uint8_t codeword[] = {0, 0, 0, 0, 0, 0, 0, 1, 0x07};
 
 static void damage_that_is_undone(void) {
     printf("\nDamage that is undone\n");
-    ReadResult read = look(2);
+    RankRead read = look(2);
     expect(read.refusal == RANK_OK && read.passes == 1 && read.flagged == 0, "a clean line");
 
     damage(2, 5, whole_chip);
@@ -198,14 +178,14 @@ static void collision(void) {
     for (int i = 0; i < 8; i++)
         copy[1][4 * 8 + i] = (uint8_t)(word >> (56 - 8 * i));
     restore(1);
-    ReadResult read = look(1);
+    RankRead read = look(1);
     expect(read.refusal == RANK_OK && read.flagged == 0 && read.collisions == 1u << 4, "a collision");
     expect(rank.catch_words[4] != word && rank.registers[4] == rank.catch_words[4], "a new catch-word");
     read = look(1);
     expect(read.refusal == RANK_OK && read.collisions == 0, "no collision with the new catch-word");
 
     /* The caller too can give a chip another catch-word at any time. */
-    Called called = rank_renew(rank, 4, 0xbb67ae8584caa73b);
+    RankCalled called = rank_renew(rank, 4, 0xbb67ae8584caa73b);
     rank = called.rank;
     expect(called.refusal == RANK_OK && rank.registers[4] == 0xbb67ae8584caa73b, "renew");
 }
@@ -217,7 +197,7 @@ static void patrol(void) {
     damage(1, 6, one_bit);
     damage(1, 7, one_bit);
     damage(3, 2, codeword);
-    PatrolResult result = rank_patrol(rank, memory, sizeof memory, PATROL_TASK, 0, LINES);
+    RankPatrol result = rank_patrol(rank, memory, sizeof memory, PATROL_TASK, 0, LINES);
     rank = result.rank;
     if (result.refusal != RANK_OK) {
         act_on(result.refusal, 0);
@@ -235,7 +215,7 @@ static void patrol(void) {
     expect(lost == result.refused, "as many lost lines as the patrol refused");
 }
 
-/* Each task has its own total. While none has stopped they add to all words repaired since boot, which can pass 32 bits. */
+/* Each task has its own total. While none has stopped they add to all words repaired since boot, in 64 bits. */
 static void repairs_by_task(void) {
     printf("\nRepairs by task\n");
     uint64_t sum = 0;
@@ -250,20 +230,22 @@ static void damage_that_is_not_undone(void) {
     printf("\nDamage that can't be undone\n");
     damage(2, 0, three_bits);
     damage(2, 1, one_bit);
-    ReadResult read = look(2);
-    expect(read.refusal == RANK_MENDED && read.passes == 3 && read.flagged == 3, "a chip that mends wrongly");
+    RankRead read = look(2);
+    expect(read.refusal == RANK_REFUSED_UNCORRECTABLE && read.passes == 3 && read.flagged == 3,
+           "a chip that mends wrongly");
     read = look(2);
     expect(read.refusal == RANK_OK && read.passes == 1, "a line written again");
 
     damage(2, 0, two_bits);
     damage(2, 1, two_bits);
     read = look(2);
-    expect(read.refusal == RANK_MENDED && read.passes == 3 && read.flagged == 3, "two chips beyond mending");
+    expect(read.refusal == RANK_REFUSED_UNCORRECTABLE && read.passes == 3 && read.flagged == 3,
+           "two chips beyond mending");
     read = look(2);
     expect(read.refusal == RANK_OK && read.passes == 1, "a line written again");
 }
 
-static void refused_call(uint32_t refusal, uint32_t expected) {
+static void refused_call(RankRefusal refusal, RankRefusal expected) {
     expect(refusal == expected, "this refusal");
     act_on(refusal, 0);
 }
@@ -274,44 +256,45 @@ static void errors_in_the_call(void) {
     uint8_t before[sizeof memory];
     memcpy(before, memory, sizeof memory);
 
-    ReadResult read = rank_read(rank, memory, sizeof memory, RANK_TASK_LIMIT, 0, buffer, sizeof buffer);
+    RankRead read = rank_read(rank, memory, sizeof memory, RANK_TASK_LIMIT, 0, buffer, sizeof buffer);
     rank = read.rank;
-    refused_call(read.refusal, RANK_TASK);
+    refused_call(read.refusal, RANK_REFUSED_TASK_OUT_OF_RANGE);
     read = rank_read(rank, memory, sizeof memory, MAP_TASK, LINES, buffer, sizeof buffer);
     rank = read.rank;
-    refused_call(read.refusal, RANK_LINE);
+    refused_call(read.refusal, RANK_REFUSED_LINE_OUT_OF_RANGE);
     read = rank_read(rank, memory, sizeof memory, MAP_TASK, 0, buffer, sizeof buffer - 1);
     rank = read.rank;
-    refused_call(read.refusal, RANK_BUFFER);
-    Called called = rank_renew(rank, RANK_CHIPS, 0);
+    refused_call(read.refusal, RANK_REFUSED_BUFFER_LENGTH);
+    RankCalled called = rank_renew(rank, RANK_CHIPS, 0);
     rank = called.rank;
-    refused_call(called.refusal, RANK_CHIP);
+    refused_call(called.refusal, RANK_REFUSED_CHIP_OUT_OF_RANGE);
     called = rank_fault(rank, memory, sizeof memory, 0, 0, one_bit, sizeof one_bit - 1);
     rank = called.rank;
-    refused_call(called.refusal, RANK_PATTERN);
+    refused_call(called.refusal, RANK_REFUSED_PATTERN_LENGTH);
     called = rank_write(rank, memory, sizeof memory - RANK_LINE_BYTES, 0, copy[0], RANK_DATA_BYTES);
     rank = called.rank;
-    refused_call(called.refusal, RANK_MEMORY_LENGTH);
+    refused_call(called.refusal, RANK_REFUSED_MEMORY_LENGTH);
 
     /* A refused boot returns a record of zeros. Here the rank lives on, so its record is kept. */
     called = rank_boot(memory, sizeof memory, catch_words, RANK_CHIPS - 1);
     expect(called.rank.lines == 0 && !called.rank.enable, "a record of zeros");
-    refused_call(called.refusal, RANK_CATCH_WORDS);
+    refused_call(called.refusal, RANK_REFUSED_CATCH_WORD_COUNT);
     called = rank_boot(memory, sizeof memory - 1, catch_words, RANK_CHIPS);
-    refused_call(called.refusal, RANK_BOOT_MEMORY);
+    refused_call(called.refusal, RANK_REFUSED_BOOT_MEMORY_LENGTH);
     expect(memcmp(before, memory, sizeof memory) == 0, "a memory that no refused call has changed");
 }
 
 static void lost_record(void) {
     printf("\nA record that no call returned\n");
     memset(&rank, 0, sizeof rank);
-    expect(look(0).refusal == RANK_NOT_READY, "a record of zeros refused");
+    expect(look(0).refusal == RANK_REFUSED_NOT_READY, "a record of zeros refused");
     rank.registers[7]++;
-    expect(look(0).refusal == RANK_REGISTERS, "another register refused");
+    expect(look(0).refusal == RANK_REFUSED_REGISTER_DIFFERS, "another register refused");
     expect(look(3).refusal == RANK_OK, "a rank booted again");
 }
 
 int main(void) {
+    expect(rank_version() == RANK_VERSION, "the archive of this header");
     for (uint32_t line = 0; line < LINES; line++)
         for (uint32_t i = 0; i < RANK_DATA_BYTES; i++)
             copy[line][i] = (uint8_t)(line * RANK_DATA_BYTES + i);

@@ -4,10 +4,10 @@
 
 #define MAP_TASK 3 /* this firmware's number for the task that reads the map, 0 to 7 */
 
-static uint8_t memory[4 * RANK_LINE_BYTES];
+static uint8_t memory[RANK_MEMORY_BYTES(4)];
 
-static int refused(uint32_t refusal) {
-    printf("refused with %u\n", (unsigned)refusal);
+static int refused(RankRefusal refusal) {
+    printf("refused with %u: %s\n", (unsigned)refusal, rank_refusal_text(refusal));
     return 1;
 }
 
@@ -17,7 +17,9 @@ int main(void) {
     const uint8_t damage[RANK_PATTERN_BYTES] = {0xff, 0x0f};
     uint8_t buffer[RANK_DATA_BYTES];
 
-    Called called = rank_boot(memory, sizeof memory, catch_words, RANK_CHIPS);
+    if (rank_version() != RANK_VERSION)
+        return 1; /* the archive is not that of this header */
+    RankCalled called = rank_boot(memory, sizeof memory, catch_words, RANK_CHIPS);
     if (called.refusal == RANK_OK)
         called = rank_write(called.rank, memory, sizeof memory, 2, data, sizeof data);
     if (called.refusal == RANK_OK)
@@ -25,7 +27,7 @@ int main(void) {
     if (called.refusal != RANK_OK)
         return refused(called.refusal);
 
-    ReadResult read = rank_read(called.rank, memory, sizeof memory, MAP_TASK, 2, buffer, sizeof buffer);
+    RankRead read = rank_read(called.rank, memory, sizeof memory, MAP_TASK, 2, buffer, sizeof buffer);
     if (read.refusal != RANK_OK)
         return refused(read.refusal);
     printf("%.64s (chips repaired: mask %03x)\n", (const char *)buffer, (unsigned)read.flagged);

@@ -88,3 +88,8 @@ faultBy (suc n) r m l k p = record { result = record { refusal = suc n; rank = r
 
 unfoldable pub faultOf : Rank → List ℕ → ℕ → ℕ → List ℕ → Leaves Called
 faultOf r m l k p = faultBy (faultRefusal r m l k p) r m l k p
+
+-- ---- the version of the interface, `RANK_VERSION` in include/rank.h
+
+abbrev pub interfaceVersion : ℕ
+interfaceVersion = 3

@@ -2,12 +2,15 @@
 // call has a `requires`: each says for every input what it returns and what every byte lent to be written is afterwards. What is lent by `&`
 // can't be written.
 ghost use mathlib.Core.Path.{_≡_};
-ghost use Rattle.rank.specs.Calls.{bootOf, writeOf, readOf, patrolOf, renewOf, faultOf};
+ghost use Rattle.rank.specs.Calls.{bootOf, writeOf, readOf, patrolOf, renewOf, faultOf, interfaceVersion};
 use record::Rank;
 use visits::ReadResult;
 use visits::read;
 use visits::read::Visited;
 use visits::sweep;
+
+// It grows whenever a struct, a parameter list or the set of calls changes.
+const INTERFACE_VERSION: u32 = 3;
 
 // What boot, write, renew and fault return: a refusal by its number in document 01, 0 for none, and the record.
 #[repr(C)]
@@ -167,4 +170,12 @@ pub extern "C" fn rank_fault(
     }
     memory::xor_into(memory, line, chip, pattern);
     Called { refusal: 0, rank }
+}
+
+// The version of this interface, `RANK_VERSION` in include/rank.h: a caller compares the two, since an archive of another version can link.
+#[no_mangle]
+pub extern "C" fn rank_version() -> u32
+    ensures { λ r. ⌜ r ≡ interfaceVersion ⌝ }
+{
+    INTERFACE_VERSION
 }

@@ -1,8 +1,0 @@
-//! An independent model of document 01 with the requests of document 02 that have landed (Req 01 to Req 03), written from
-//! their words and in their order. `device` and `plain` share nothing but `code`.
-// Each test file uses only a part of it.
-#![allow(dead_code)]
-
-pub mod code;
-pub mod device;
-pub mod plain;

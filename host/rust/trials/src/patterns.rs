@@ -1,0 +1,34 @@
+//! Patterns of damage to one chip.
+use crate::model::code::{self, Cell};
+use crate::random::Random;
+
+/// Two bits of the word: beyond mending.
+pub const WORD_300: Cell = [0, 0, 0, 0, 0, 0, 3, 0, 0];
+/// Two bits of the check byte: beyond mending, with the word whole.
+pub const CHECK_03: Cell = [0, 0, 0, 0, 0, 0, 0, 0, 3];
+/// The syndrome of the lowest bit of the word: the chip inverts that bit, which was right.
+pub const CHECK_07: Cell = [0, 0, 0, 0, 0, 0, 0, 0, 7];
+
+/// The nine bytes whose bits, by their positions in the code, are these.
+pub fn cell_of(bits: u128) -> Cell {
+    *bits.to_be_bytes().last_chunk().unwrap()
+}
+
+/// One bit, by its position in the code.
+pub fn one_bit(position: usize) -> Cell {
+    cell_of(1 << position)
+}
+
+pub fn xor(one: Cell, other: Cell) -> Cell {
+    std::array::from_fn(|place| one[place] ^ other[place])
+}
+
+/// As many bits inverted one after another. The same one may come twice.
+pub fn random_bits(random: &mut Random, bits: usize) -> Cell {
+    (0..bits).fold([0; 9], |pattern, _| xor(pattern, one_bit(random.below(72))))
+}
+
+/// Bits of the check byte alone.
+pub fn random_check(random: &mut Random) -> Cell {
+    code::cell(0, random.byte())
+}
