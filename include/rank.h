@@ -8,17 +8,26 @@
  * chips, each with an eight-byte word and a check byte; chips 0 to 7 hold the line, chip 8 the xor of their words.
  * Proved for every list of calls from an accepted boot, while the premise holds: a read whose arguments fit gives the
  * line last written, 64 zeros if none was, and repairs the memory, or it refuses with 21. It refuses only if two or
- * more chips are damaged and one of them has several bad bits, which its code takes for one: so not if one chip alone
- * is damaged, or each chip in one bit at most, or every chip but one in one bit at most and that one is beyond mending.
- * A chip is beyond mending if it holds no codeword and no single bit, inverted, would make one. The premise, at each
- * visit to a line: no chip's damage makes another codeword of its codeword, and at most one chip has more than one bad
- * bit.
+ * more chips are damaged, one of them has several bad bits, which its code takes for one, and that chip is not blamed
+ * by the other lines of the row: so not if one chip alone is damaged, or each chip in one bit at most, or every chip
+ * but one in one bit at most and that one is beyond mending, or blamed. A chip is beyond mending if it holds no
+ * codeword and no single bit, inverted, would make one. The premise, at each visit to a line: no chip's damage makes
+ * another codeword of its codeword, at most one chip has more than one bad bit, and if the row is diagnosed, no chip
+ * with one bad bit is blamed.
+ *
+ * A row is 128 lines from a multiple of 128; the last may be shorter. It is diagnosed if two or more chips of a line
+ * are flagged, that is, hold no codeword, none of them is beyond mending, and the nine words don't xor to zero after
+ * mending. A chip is blamed if it is flagged on that line and in at least a tenth of the other lines of the row, there
+ * is another line, and no other chip is flagged in a tenth. It is rebuilt from the other eight. If none is blamed, the
+ * line is refused.
  *
  * Outside the premise a read may refuse with 20 or 21, and a line that it gives may not be the one written. An example:
  * chip 0 has two bad bits, 300h in its word, and is beyond mending; chip 1 has three, 07h in its check byte, which its
  * code takes for one in its word, so that it inverts a bit that was right and says that it mended. Chip 0 is rebuilt
  * from that word. The read gives a line with two wrong bits, the lowest of either word, and the memory then holds that
- * line.
+ * line. Another, of a rank of two lines: in line 0 chip 0 has the same three bad bits and chip 1 has one, and in line 1
+ * chip 1 has one. Chip 1 is blamed, since it is flagged in the one other line and chip 0 is not, and it is rebuilt from
+ * chip 0's word. The read of line 0 gives the same two wrong bits.
  *
  * What a caller owes
  *
@@ -43,7 +52,8 @@
  *   interrupt handler that does not save them can't call it. As the ABI allows, calls use 128 bytes below the stack
  *   pointer (the red zone).
  * - No call needs more than RANK_STACK_BYTES of stack, its arguments and its result included. The most that is measured
- *   is about 1,050 bytes, for a patrol that repairs a line.
+ *   is about 1,060 bytes, for a patrol that repairs a line.
+ * - A read that diagnoses the row takes the time of a patrol over its lines, and so does each such line of a patrol.
  * - Records and results have padding bytes of no fixed value: compare records field by field and not by memcmp.
  *
  * Tasks
@@ -106,7 +116,7 @@ extern "C" {
     X(RANK_REFUSED_UNLOCATED, 20, "no chip is flagged, and the nine words don't xor to zero")                         \
     X(RANK_REFUSED_UNCORRECTABLE, 21,                                                                                 \
       "two or more chips are flagged, and two or more of them are beyond mending, "                                   \
-      "or none is and the words don't xor to zero")                                                                   \
+      "or none is, the mended words don't xor to zero and no chip is blamed")                                         \
     X(RANK_REFUSED_TASK_OUT_OF_RANGE, 31, "read or patrol: the task is not below 8")
 
 /* RANK_OK, or the number of a refusal. A number and not an enum, so that the structs below have a fixed layout. */
@@ -161,7 +171,7 @@ typedef struct RankCalled {
 /* What a read returns. With refusals 20 and 21 passes and masks are those reached; with every other they are 0. */
 typedef struct RankRead {
     RankRefusal refusal; /* RANK_OK if the line is in the buffer */
-    uint32_t passes;     /* passes made over the line, 1 to 3 */
+    uint32_t passes;     /* passes made: 1 to 3; if the row was diagnosed, 3 and two for each other line, up to 257 */
     uint32_t flagged;    /* bit K: chip K held no codeword. If the line was answered, its word was repaired */
     uint32_t collisions; /* bit K: chip K's word is sound and equal to its catch-word */
     Rank rank;           /* the record to keep */
@@ -240,10 +250,12 @@ RankCalled rank_write(Rank rank, uint8_t *memory, size_t memory_len, uint32_t li
  *   buffer_len   how many bytes it has: RANK_DATA_BYTES
  *
  * One flagged chip is rebuilt from the other eight; two or more are mended by their own codes, and if one of them is
- * beyond mending, it is rebuilt from the other eight then. Each flagged chip gets the word so found and its check byte
- * in the memory, and the task's repair total grows by their number. Each colliding chip gets another catch-word:
- * 9E3779B97F4A7C15h is added to both copies, modulo 2^64.
- * After 20 or 21 the memory is as before, so the line is refused again until it is written.
+ * beyond mending, or is blamed by the other lines of the row, it is rebuilt from the other eight then. Each flagged
+ * chip gets the word so found and its check byte in the memory, and the task's repair total grows by their number. Each
+ * colliding chip gets another catch-word: 9E3779B97F4A7C15h is added to both copies, modulo 2^64. The other lines of
+ * the row are only looked at.
+ * After 20 or 21 the memory is as before, so the line is refused again until it is written, or, after 21 with the
+ * row diagnosed, until other lines of the row have changed.
  */
 RANK_KEEP RANK_LENT(read_write, 2, 3) RANK_LENT(write_only, 6, 7)
 RankRead rank_read(Rank rank, uint8_t *memory, size_t memory_len, uint32_t task, uint32_t line, uint8_t *buffer,
@@ -261,7 +273,9 @@ RankRead rank_read(Rank rank, uint8_t *memory, size_t memory_len, uint32_t task,
  *
  * It visits min(budget, N - first) lines, each as a read for that task does: its repairs, the task's repair total and
  * the catch-words of colliding chips change likewise. A line that a read would refuse is counted and left as it is, and
- * doesn't stop the patrol; which one it was, a read tells. `refused` above 0 is no refusal of the call.
+ * doesn't stop the patrol; which one it was, a read tells. `refused` above 0 is no refusal of the call. Repairs take
+ * away what blames a chip, so a patrol over a row in which one chip is bad can answer the first lines and refuse the
+ * last.
  */
 RANK_KEEP RANK_LENT(read_write, 2, 3)
 RankPatrol rank_patrol(Rank rank, uint8_t *memory, size_t memory_len, uint32_t task, uint32_t first, uint32_t budget);

@@ -231,8 +231,8 @@ static void damage_that_is_not_undone(void) {
     damage(2, 0, three_bits);
     damage(2, 1, one_bit);
     RankRead read = look(2);
-    expect(read.refusal == RANK_REFUSED_UNCORRECTABLE && read.passes == 3 && read.flagged == 3,
-           "a chip that mends wrongly");
+    expect(read.refusal == RANK_REFUSED_UNCORRECTABLE && read.passes == 3 + 2 * (LINES - 1) && read.flagged == 3,
+           "a chip that mends wrongly, and no chip is bad in the other lines");
     read = look(2);
     expect(read.refusal == RANK_OK && read.passes == 1, "a line written again");
 

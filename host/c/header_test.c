@@ -15,6 +15,7 @@
 static const uint64_t catch_words[RANK_CHIPS] = {1, 2, 3, 4, 5, 6, 7, 8, 9};
 static const uint8_t bits[RANK_PATTERN_BYTES] = {0x80, 0x01}; /* beyond mending */
 static const uint8_t bit[RANK_PATTERN_BYTES] = {0x80};
+static const uint8_t bits_as_one[RANK_PATTERN_BYTES] = {0, 0, 0, 0, 0, 0, 0, 0, 0x07}; /* mended by inverting a right bit */
 
 static uint8_t memory[RANK_MEMORY_BYTES(LINES)];
 static uint8_t buffer[RANK_DATA_BYTES];
@@ -107,16 +108,22 @@ static void measure(const char *name, void (*function)(void)) {
     expect(bytes > 0 && bytes <= RANK_STACK_BYTES, "the stack that a call needs");
 }
 
-static void damage(uint32_t chip, const uint8_t *pattern) {
-    called = rank_fault(rank, memory, sizeof memory, 0, chip, pattern, RANK_PATTERN_BYTES);
+static void damage(uint32_t line, uint32_t chip, const uint8_t *pattern) {
+    called = rank_fault(rank, memory, sizeof memory, line, chip, pattern, RANK_PATTERN_BYTES);
     expect(called.refusal == RANK_OK, "fault");
 }
 
-/* One chip beyond mending and the eight others with a bad bit: every part of a visit runs. */
-static void damage_all(void) {
-    damage(0, bits);
+/* Chip 0 of line 0 as it is told and the eight others with a bad bit. */
+static void damage_all(const uint8_t *pattern) {
+    damage(0, 0, pattern);
     for (uint32_t chip = 1; chip < RANK_CHIPS; chip++)
-        damage(chip, bit);
+        damage(0, chip, bit);
+}
+
+/* Bits that chip 0 takes for one, and in another line the same chip: every part of a visit runs. */
+static void damage_row(void) {
+    damage_all(bits_as_one);
+    damage(LINES - 1, 0, bit);
 }
 
 static void stacks(void) {
@@ -128,12 +135,18 @@ static void stacks(void) {
     measure("fault", fault);
     measure("read, one chip rebuilt", read_line);
     expect(read_result.refusal == RANK_OK && read_result.passes == 2, "one chip rebuilt");
-    damage_all();
+    damage_all(bits);
     measure("read, all chips repaired", read_line);
     expect(read_result.refusal == RANK_OK && read_result.flagged == 0x1ff, "all chips repaired");
-    damage_all();
+    damage_all(bits);
     measure("patrol, all chips repaired", patrol);
     expect(patrol_result.refusal == RANK_OK && patrol_result.rewritten == RANK_CHIPS, "all chips repaired");
+    damage_row();
+    measure("read, row diagnosed", read_line);
+    expect(read_result.refusal == RANK_OK && read_result.passes == 3 + 2 * (LINES - 1), "row diagnosed");
+    damage_all(bits_as_one); /* the other line is still damaged */
+    measure("patrol, row diagnosed", patrol);
+    expect(patrol_result.refusal == RANK_OK && patrol_result.rewritten == RANK_CHIPS + 1, "row diagnosed");
 }
 
 int main(void) {

@@ -1,4 +1,4 @@
--- Laws of how large the numbers are that are printed: a refusal has at most two decimal digits, the passes one and a mask three hexadecimal
+-- Laws of how large the numbers are that are printed: a refusal has at most two decimal digits, the passes three and a mask three hexadecimal
 -- digits, so that `decimalText` and `hexText` print them whole. The first word has sixteen, as a number of 64 bits.
 -- Assumes nothing.
 use mathlib.Core.Path.{_≡_}
@@ -6,16 +6,18 @@ use mathlib.Core.Bool.{Bool, true, false}
 use mathlib.Core.List.{List, [], _∷_, _++_}
 use Prim.Native.Nat.{ℕ, zero, suc, _+_, _<_}
 use native.Mathlib.Omega.{arith}
-use lib.Dec.{ltb, lit<}
+use lib.Dec.{lit<}
 use Rattle.code.specs.Lists.{Every}
-use Rattle.cells.specs.Chips.{bit, mask, count}
+use Rattle.cells.specs.Chips.{mask}
 use Rattle.cells.specs.ChipLaws.{mask-lt}
-use Rattle.passes.specs.Passes.{isCandidate, isFlagged, isCollision, flaggedChips}
-use Rattle.line.specs.Visit.{outcomeOf, passesOf, reportOf, refusalOf}
+use Rattle.passes.specs.Passes.{isFlagged, isCollision}
+use Rattle.line.specs.Visit.{reportOf, refusalOf}
 use Rattle.line.specs.declared.Outcome.{Outcome}
 use Rattle.line.specs.declared.Outcome.the-variants.{Answered, Unlocated, Uncorrectable}
 use Rattle.refusals.specs.Refusals.{lineOut, bufferOut, chipOut, patternOut, notReady, memoryDiffers, registerDiffers, taskOut, refusedIf, firstOf, stateRefusals, writeRefusal, readTests, faultRefusal}
 use Rattle.memory.specs.Lines.{lineAt}
+use Rattle.rows.specs.Rows.{reportIn}
+use Rattle.rows.specs.RowLaws.{passes-most}
 use Rattle.visits.specs.Visits.{visitOf, resultOf, readBy}
 use Rattle.rank.specs.Calls.{writeBy, writeOf, readOf, faultBy, faultOf}
 use Rattle.record.specs.declared.Rank.{Rank}
@@ -78,7 +80,7 @@ fault-small r m l k p e = rw e (fault-by (faultRefusal r m l k p) r m l k p (fau
 
 pub record Small (v : ReadResult) : Type 0 where
   pub refusal : v .refusal < 100
-  pub passes : v .passes < 10
+  pub passes : v .passes < 1000
   pub flagged : v .flagged < 4096
   pub collisions : v .collisions < 4096
 
@@ -88,20 +90,15 @@ outcome-lt Answered = lit< tt
 outcome-lt Unlocated = lit< tt
 outcome-lt Uncorrectable = lit< tt
 
-bit-lt : (t : Bool) → bit t < 2
-bit-lt true = lit< tt
-bit-lt false = lit< tt
-
 three-digits : (p : ℕ → Bool) → mask p 9 < 4096
 three-digits p = let h = mask-lt p 9 in omega arith
 
 read-by : (n : ℕ) (r : Rank) (m : List ℕ) (task l : ℕ) (b : List ℕ) → n < 100 → Small (readBy n r m task l b .result)
-unfolding readBy resultOf visitOf reportOf passesOf
+unfolding readBy resultOf visitOf reportIn reportOf
 read-by zero r m task l b h =
     record {
-      refusal = outcome-lt (outcomeOf (lineAt m l) (r .«catch_words»));
-      passes =
-          omega (arith, bit-lt (ltb 0 (count (isCandidate (lineAt m l) (r .«catch_words»)) 9)), bit-lt (ltb 1 (flaggedChips (lineAt m l) (r .«catch_words»))));
+      refusal = outcome-lt (reportIn (r .lines) m l (r .«catch_words») .outcome);
+      passes = omega (arith, passes-most (r .lines) m l (r .«catch_words»));
       flagged = three-digits (isFlagged (lineAt m l) (r .«catch_words»));
       collisions = three-digits (isCollision (lineAt m l) (r .«catch_words»));
     }

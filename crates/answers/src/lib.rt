@@ -4,7 +4,7 @@ ghost use Prim.Native.Nat.{_+_, _≤_};
 ghost use lib.ListN.{length, replicate};
 ghost use Rattle.cells.specs.Cells.{dataBytes};
 ghost use Rattle.rank.specs.Calls.{writeOf, readOf, faultOf};
-ghost use Rattle.texts.specs.Texts.{unknownText, Laid};
+ghost use Rattle.texts.specs.Texts.{unknownText, Laid, longestText};
 ghost use Rattle.answers.specs.Answers.{Replies, callReply, patternOf, readReply, replyTo};
 use cells::CHIP_BYTES;
 use cells::DATA_BYTES;
@@ -19,10 +19,10 @@ pub struct Answered {
 
 // Answers a line, its line feed left out: makes the call that it asks for, and puts what is printed for it in the output, from a place on.
 pub fn answer(rank: Rank, memory: &mut [u8], line: &[u8], out: &mut [u8], at: usize) -> Answered
-    requires { ⌜ at + 32 ≤ length (now out) ⌝ }
+    requires { ⌜ at + longestText ≤ length (now out) ⌝ }
     ensures reply { λ r. ⌜ Replies (replyTo (now (line .entry)) rank (now (memory .entry)))
         r (now (memory .exit)) at (now (out .entry)) (now (out .exit)) ⌝ }
-    ensures most { λ r. ⌜ r .length ≤ at + 32 ⌝ }
+    ensures most { λ r. ⌜ r .length ≤ at + longestText ⌝ }
 {
     let event = events::event_of(line);
     match event {
@@ -47,10 +47,10 @@ fn answer_write(
     out: &mut [u8],
     at: usize,
 ) -> Answered
-    requires { ⌜ at + 32 ≤ length (now out) ⌝ }
+    requires { ⌜ at + longestText ≤ length (now out) ⌝ }
     ensures reply { λ r. ⌜ Replies (callReply 119 (writeOf rank (now (memory .entry)) line (replicate dataBytes byte)))
         r (now (memory .exit)) at (now (out .entry)) (now (out .exit)) ⌝ }
-    ensures most { λ r. ⌜ r .length ≤ at + 32 ⌝ }
+    ensures most { λ r. ⌜ r .length ≤ at + longestText ⌝ }
 {
     let bytes = [byte; DATA_BYTES];
     let called = rank::rank_write(rank, memory, line, &bytes);
@@ -64,10 +64,10 @@ fn answer_write(
 
 // Reads a line. The bench names task 0 (document 02, Req 01).
 fn answer_read(rank: Rank, memory: &mut [u8], line: u32, out: &mut [u8], at: usize) -> Answered
-    requires { ⌜ at + 32 ≤ length (now out) ⌝ }
+    requires { ⌜ at + longestText ≤ length (now out) ⌝ }
     ensures reply { λ r. ⌜ Replies (readReply (readOf rank (now (memory .entry)) 0 line (replicate dataBytes 0)))
         r (now (memory .exit)) at (now (out .entry)) (now (out .exit)) ⌝ }
-    ensures most { λ r. ⌜ r .length ≤ at + 32 ⌝ }
+    ensures most { λ r. ⌜ r .length ≤ at + longestText ⌝ }
 {
     let mut buffer = [0u8; DATA_BYTES];
     let read = rank::rank_read(rank, memory, 0, line, &mut buffer);
@@ -98,10 +98,10 @@ fn answer_fault(
     out: &mut [u8],
     at: usize,
 ) -> Answered
-    requires { ⌜ at + 32 ≤ length (now out) ⌝ }
+    requires { ⌜ at + longestText ≤ length (now out) ⌝ }
     ensures reply { λ r. ⌜ Replies (callReply 102 (faultOf rank (now (memory .entry)) line chip pattern))
         r (now (memory .exit)) at (now (out .entry)) (now (out .exit)) ⌝ }
-    ensures most { λ r. ⌜ r .length ≤ at + 32 ⌝ }
+    ensures most { λ r. ⌜ r .length ≤ at + longestText ⌝ }
 {
     let called = rank::rank_fault(rank, memory, line, chip, &pattern);
     let length = texts::spell_call(out, at, b'f', called.refusal);
@@ -124,10 +124,10 @@ fn pattern(word: u64, check: u8) -> [u8; CHIP_BYTES]
 
 // Makes no call.
 fn answer_unknown(rank: Rank, out: &mut [u8], at: usize) -> Answered
-    requires { ⌜ at + 32 ≤ length (now out) ⌝ }
+    requires { ⌜ at + longestText ≤ length (now out) ⌝ }
     ensures rank { λ r. ⌜ r .rank ≡ rank ⌝ }
     ensures laid { λ r. ⌜ Laid (now (out .entry)) at unknownText (now (out .exit)) (r .length) ⌝ }
-    ensures most { λ r. ⌜ r .length ≤ at + 32 ⌝ }
+    ensures most { λ r. ⌜ r .length ≤ at + longestText ⌝ }
 {
     let length = texts::spell_unknown(out, at);
     Answered { length, rank }

@@ -12,7 +12,7 @@ use lib.Arith.{digits-lt}
 use lib.Pow.{pow-pos, pow-add, high}
 use lib.Bits.{bitAnd, bitXor, and-block, xor-block, xor-lt, xor-zero-r}
 use lib.ListN.{length, getD, take, length-append}
-use lib.Seq.{take-suc, take-all}
+use lib.Seq.{take-suc, take-all, getD-at}
 use lib.Dec.{eqb}
 use borrow.Author.Tests.{eq-eqb, ne-eqb, eqb-true, eqb-false, not-false}
 use lib.Count.{ones, onesIn, ones-cat}
@@ -29,6 +29,21 @@ pub length-ofChips : (f : ℕ → ℕ) (n : ℕ) → length (ofChips f n) ≡ n
 unfolding ofChips
 length-ofChips f zero = refl
 length-ofChips f (suc n) = length-append (ofChips f n) (f n ∷ []) ∙ ap (λ (x : ℕ). x + 1) (length-ofChips f n) ∙ add-one n
+
+-- the first list's elements stand in two lists, one after the other, where they stood
+getD-first : (xs ys : List ℕ) (k : ℕ) → k < length xs → getD (xs ++ ys) k 0 ≡ getD xs k 0
+getD-first [] ys k h = absurd (not-suc-le-zero h)
+getD-first (x ∷ xs) ys zero h = refl
+getD-first (x ∷ xs) ys (suc k) h = getD-first xs ys k (le-of-suc-le-suc h)
+
+-- f of chip k stands at its place
+pub getD-ofChips : (f : ℕ → ℕ) (n k : ℕ) → k < n → getD (ofChips f n) k 0 ≡ f k
+unfolding ofChips
+getD-ofChips f zero k h = absurd (not-suc-le-zero h)
+getD-ofChips f (suc n) k h =
+    last h
+    (λ (e : k ≡ n). ap (λ (i : ℕ). getD (ofChips f n ++ (f n ∷ [])) i 0) e ∙ getD-at (ofChips f n) (f n) [] 0 n (length-ofChips f n) ∙ ap f (sym e))
+    (λ (l : k < n). getD-first (ofChips f n) (f n ∷ []) k (omega (arith, length-ofChips f n)) ∙ getD-ofChips f n k l)
 
 -- ---- what agrees at each chip agrees
 

@@ -13,12 +13,12 @@ use Rattle.line.specs.Visit.{ifAnswered, refusalOf}
 use Rattle.line.specs.declared.Report.{Report}
 use Rattle.line.specs.declared.Outcome.{Outcome}
 use Rattle.line.specs.declared.Outcome.the-variants.{Answered, Uncorrectable}
-use Rattle.visits.specs.Runs.{Did, outs, end, upFrom, sumOf}
+use Rattle.visits.specs.Runs.{Did, outs, end}
+use Rattle.code.specs.Lists.{upFrom, sumOf, Every}
 use Rattle.memory.specs.Lines.{lineAt, faulted}
 use Rattle.visits.specs.Visits.{Device, visitOf, readBy, resultOf, foundLine, refusedIn}
 use Rattle.rank.specs.Calls.{writeOf, writeBy, readOf, patrolOf, patrolBy, patrolled, patrolLines, renewOf, renewBy, faultOf, faultBy}
 use Rattle.record.specs.Record.{renewed}
-use Rattle.code.specs.Lists.{Every}
 use Rattle.claims.specs.Lists.{Call, write, read, patrol, renew, fault, Typed, Compared, refused, done, line, counts, comparedBy, deviceCall}
 use Rattle.claims.specs.Plain.{Line, Plain, undamaged, withFault, answers, visitBy, plainVisit, unless, plainRefusal, visits, plainAccepted, plainBy, plainCall, plainRefusedBy}
 use Rattle.claims.specs.Premises.{Premise, AtVisits, PremiseBy}
@@ -84,15 +84,15 @@ module _ (n : ℕ) where
   compared-read true p l found b e = ap line (e refl)
   compared-read false p l found b e = refl
 
-  read-same : (d : Device) (p : Plain) (task l : ℕ) (b : List ℕ) → l < n → Related n d p → Premise (p .plainLine l)
+  read-same : (d : Device) (p : Plain) (task l : ℕ) (b : List ℕ) → l < n → Related n d p → Premise p l
       → Alike (deviceBy zero d (read task l b)) (plainVisit p l)
   unfolding deviceBy readBy resultOf plainVisit
   read-same d p task l b in-n r h =
-      let found : List ℕ = foundLine (lineAt (d .memory) l) (d .rank .«catch_words») in
+      let found : List ℕ = foundLine (d .rank .lines) (d .memory) l (d .rank .«catch_words») in
       record {
         same =
             ap (λ (o : Outcome). comparedBy (refusalOf o) (line (ifAnswered o found b))) (visited-outcome n task d p l in-n r h)
-            ∙ compared-read (answers (p .plainLine l)) p l found b (visited-found n task d p l in-n r h);
+            ∙ compared-read (answers p l) p l found b (visited-found n task d p l in-n r h);
         now-related = visited-related n task d p l in-n r h;
       }
 

@@ -13,21 +13,24 @@ use borrow.Author.Tests.{eqb-true, eqb-false, eq-eqb, ltb-true, ltb-false}
 use Rattle.cells.specs.Cells.{chipAt}
 use Rattle.words.specs.Bytes.{numberOf, Bytes}
 use Rattle.cells.specs.ChipLaws.{count-zero}
+use Rattle.line.specs.Blame.{Evidence}
 use Rattle.line.specs.Visit.{bytesAfter}
 use Rattle.line.specs.AnsweredLaws.{length-after}
-use Rattle.visits.specs.Runs.{outs, end, upFrom}
+use Rattle.visits.specs.Runs.{outs, end}
+use Rattle.code.specs.ListLaws.{sum-range}
+use Rattle.code.specs.Lists.{upFrom, Every}
 use Rattle.memory.specs.Lines.{lineAt, withLine}
+use Rattle.rows.specs.Rows.{evidenceOf, reportIn, bytesIn}
 use Rattle.memory.specs.LineLaws.{length-withLine, bytes-line, length-lineAt, line-laid, line-other}
 use Rattle.record.specs.Record.{totalLimit}
 use Rattle.refusals.specs.Refusals.{readTests, patrolRefusal}
 use Rattle.refusals.specs.RefusalLaws.{read-passed, patrol-passed}
 use Rattle.visits.specs.Visits.{Device, visitOf, rewrittenIn, readBy}
 use Rattle.rank.specs.Calls.{readOf, patrolled, patrolLines, patrolBy, patrolOf}
-use Rattle.code.specs.Lists.{Every}
 use Rattle.claims.specs.Lists.{Call, write, read, patrol, renew, fault, Typed, deviceCall}
 use Rattle.claims.specs.Claim.{bootedDevice}
 use Rattle.claims.specs.Tasks.{Counting, rewritesBy, rewrites, changedChips, changedLines, changedBy, names, forTask, sumAlong, allRewritten, rewrittenFor, TotalsChanged}
-use Rattle.claims.proofs.Totals.{read-rewrites, sum-ext, sum-add, sum-zero, sum-own, totals-counted}
+use Rattle.claims.proofs.Totals.{read-rewrites, sum-add, sum-zero, sum-own, totals-counted}
 use Rattle.claims.proofs.Rewritten.{rewritten-changed}
 use Rattle.claims.proofs.MemoryBytes.{visit-bytes, BytesIfEnabled, call-bytes, boot-bytes}
 
@@ -59,13 +62,13 @@ module _ (n : ℕ) where
       → changedLines n x z ≡ changedLines n x y + changedLines n y z
   unfolding changedLines
   lines-both x y z h =
-      sum-ext _ _ n 0 (λ l b. changed-both (lineAt x l) (lineAt y l) (lineAt z l) (h l)) ∙ sum-add _ _ (upFrom 0 n)
+      sum-range _ _ 0 n (λ l _ b. changed-both (lineAt x l) (lineAt y l) (lineAt z l) (h l)) ∙ sum-add _ _ (upFrom 0 n)
 
   -- one line laid
   line-changed : (m : List ℕ) (l : ℕ) (bs : List ℕ) → length m ≡ 81 * n → l < n → length bs ≡ 81
       → changedLines n m (withLine m l bs) ≡ changedChips (lineAt m l) bs
   unfolding changedLines
-  line-changed m l bs size in-n full = sum-ext _ _ n 0 (λ j b. by j (eqb l j) refl) ∙ sum-own l _ n 0 zero-le (omega arith)
+  line-changed m l bs size in-n full = sum-range _ _ 0 n (λ j _ b. by j (eqb l j) refl) ∙ sum-own l _ n 0 zero-le (omega arith)
     where
       fits : 81 * l + 81 ≤ length m
       fits = omega (arith, size)
@@ -97,8 +100,8 @@ module _ (n : ℕ) where
 
       -- the other lines stay
       visit-other : (j : ℕ) → j ≢ l → lineAt (d .memory) j ≡ lineAt (visitOf task d l .now .memory) j
-      unfolding visitOf
-      visit-other j ne = sym (line-other (d .memory) l fits _ (length-after (lineAt (d .memory) l) _ full) j ne)
+      unfolding visitOf bytesIn
+      visit-other j ne = sym (line-other (d .memory) l fits _ (length-after _ (lineAt (d .memory) l) _ full) j ne)
 
     -- the lines below those visited stay
     lines-below : (k l : ℕ) (d : Device) → length (d .memory) ≡ 81 * n → l + k ≤ n → (j : ℕ) → j < l
@@ -112,12 +115,12 @@ module _ (n : ℕ) where
     -- as many words as they report
     visits-changed : (k l : ℕ) (d : Device) → length (d .memory) ≡ 81 * n → Bytes (d .memory) → l + k ≤ n
         → rewrittenIn (outs (visitOf task) d (upFrom l k)) ≡ changedLines n (d .memory) (end (visitOf task) d (upFrom l k) .memory)
-    unfolding visitOf rewrittenIn
+    unfolding visitOf reportIn bytesIn rewrittenIn
     visits-changed zero l d size bytes in-n = sym (lines-none (d .memory))
     visits-changed (suc k) l d size bytes in-n =
         ap₂ (λ (i j : ℕ). i + j)
-        (rewritten-changed x cws eighty-one (bytes-line (d .memory) l bytes)
-        ∙ sym (line-changed (d .memory) l (bytesAfter x cws) size here (length-after x cws eighty-one)))
+        (rewritten-changed ev x cws eighty-one (bytes-line (d .memory) l bytes)
+        ∙ sym (line-changed (d .memory) l (bytesAfter ev x cws) size here (length-after ev x cws eighty-one)))
         (visits-changed k (suc l) e sized (visit-bytes task d l bytes) more)
         ∙ sym (lines-both (d .memory) (e .memory) last (λ j. by j (ltb l j) refl))
       where
@@ -126,6 +129,9 @@ module _ (n : ℕ) where
 
         cws : List ℕ
         cws = d .rank .«catch_words»
+
+        ev : Evidence
+        ev = evidenceOf (d .rank .lines) (d .memory) l (d .rank .«catch_words»)
 
         e : Device
         e = visitOf task d l .now

@@ -1,7 +1,7 @@
 -- What follows from demand 3 for a read after a list under the premise.
 -- Assumes nothing.
 use mathlib.Core.Path.{_≡_, refl, sym, ap, _∙_, subst}
-use mathlib.Core.Logic.{_≢_}
+use mathlib.Core.Logic.{_≢_, _⊎_, inl, inr}
 use mathlib.Core.Bool.{Bool, true, false, cond}
 use mathlib.Core.List.{List, [], _∷_}
 use Prim.Native.Nat.{ℕ, zero, suc, _/_, _≤_, _<_}
@@ -9,28 +9,33 @@ use lib.Dec.{eqb}
 use lib.ListN.{length, replicate}
 use borrow.Author.Tests.{eq-eqb, ne-eqb}
 use Rattle.code.specs.Code.{isCodeword}
-use Rattle.words.specs.Bytes.{numberOf, xorBytes}
+use native.Mathlib.Omega.{arith}
+use Rattle.words.specs.Bytes.{numberOf, xorBytes, bytesOf}
 use Rattle.words.specs.ByteLaws.{number-zeros}
 use Rattle.passes.specs.Passes.{beyondChips}
 use Rattle.line.specs.Damage.{Answerable}
-use Rattle.line.specs.FormerVisitLaws.{former-answered}
-use Rattle.memory.specs.Lines.{lineAt}
+use Rattle.cells.specs.ChipLaws.{joined-ext}
+use Rattle.line.specs.FormerVisit.{reportWith, AsBeforeRows}
+use Rattle.line.specs.FormerVisitLaws.{former-answered, before-rows, not-diagnosed-before}
+use Rattle.memory.specs.Lines.{lineAt, withLine}
+use Rattle.rows.specs.Rows.{evidenceOf, reportIn, wordIn, bytesIn}
+use Rattle.record.specs.Record.{afterVisit}
 use Rattle.refusals.specs.RefusalLaws.{boot-passed}
-use Rattle.visits.specs.Visits.{Device}
+use Rattle.visits.specs.Visits.{Device, visitOf, foundLine}
 use Rattle.visits.specs.Runs.{Did, outs}
 use Rattle.rank.specs.Calls.{readOf}
 use Rattle.claims.specs.Lists.{Call, write, read, fault, Compared, refused, done, line, counts, comparedBy, deviceCall}
 use Rattle.claims.specs.Plain.{Line, Plain, undamaged, withPlainLine, withFault, damage, answers, visitBy, plainVisit, plainRefusal, plainAccepted, plainBy, plainCall}
-use Rattle.claims.specs.Premises.{Premise, PremiseBy, AtCalls}
+use Rattle.claims.specs.Premises.{LinePremise, Premise, PremiseBy, AtCalls}
 use Rattle.claims.specs.Claim.{UnderPremise}
-use Rattle.claims.specs.Damages.{OneChip}
-use Rattle.claims.specs.Corollaries.{ReadsLine, deviceAfter, plainAfter, OneChipAnswers, OneBitAnswers, OneBeyondAnswers, OneFaultAnswers, AnsweredReadLine, AnsweredBefore}
+use Rattle.claims.specs.Damages.{OneChip, Refused}
+use Rattle.claims.specs.Corollaries.{ReadsLine, deviceAfter, plainAfter, OneChipAnswers, OneBitAnswers, OneBeyondAnswers, BadRowAnswers, RefusedOnly, OneFaultAnswers, AnsweredReadLine, AnsweredBefore, visitBefore, foundBefore, SameVisit, AnsweredBeforeRows, UndiagnosedSame}
 use Rattle.claims.proofs.Related.{Formed, Related, formed-undamaged, formed-fault}
-use Rattle.claims.proofs.Answers.{answers-true}
+use Rattle.claims.proofs.Answers.{Ends, decided, rightly, nobody, ends, answers-true, answers-blamed, answers-false, refused-shows}
 use Rattle.claims.proofs.Visits.{line-beyond}
 use Rattle.claims.proofs.Calls.{call-same}
 use Rattle.claims.proofs.Claims.{FaithfulFrom, faithful-from, faithful-boot}
-use Rattle.claims.proofs.Damages.{one-premise, one-answerable, narrow-premise, narrow-answerable, beyond-premise, beyond-answerable, zeros-xor}
+use Rattle.claims.proofs.Damages.{one-premise, one-answerable, narrow-premise, narrow-answerable, beyond-premise, beyond-answerable, premise-answerable, bad-premise, bad-answers, zeros-xor}
 use Rattle.claims.proofs.PlainCalls.{plain-read, plain-write, plain-fault, with-here, premise-read, premise-write, premise-fault}
 
 module _ (m cws : List ℕ) (cs : List Call) (u : UnderPremise m cws cs) where
@@ -48,16 +53,30 @@ module _ (m cws : List ℕ) (cs : List Call) (u : UnderPremise m cws cs) where
   formed : (l : ℕ) → l < length m / 81 → Formed (plainAfter m cs .plainLine l)
   formed = related .holds .formed
 
-  read-answered : (task l : ℕ) (b : List ℕ) → ReadsLine m task l b → Premise (plainAfter m cs .plainLine l)
-      → Answerable (damage (plainAfter m cs .plainLine l))
-      → deviceCall (deviceAfter m cws cs) (read task l b) .out ≡ line (plainAfter m cs .plainLine l .bytes)
-  unfolding plainVisit visitBy
-  read-answered task l b s g a =
+  -- its answer, by how the visit ends
+  read-visited : (task l : ℕ) (b : List ℕ) → ReadsLine m task l b → Premise (plainAfter m cs) l → (t : Bool) → answers (plainAfter m cs) l ≡ t
+      → deviceCall (deviceAfter m cws cs) (read task l b) .out ≡ visitBy t (plainAfter m cs) l .out
+  unfolding plainVisit
+  read-visited task l b s g t a =
       let p : Plain = plainAfter m cs in
       let in-p : l < p .lines = subst (λ (k : ℕ). l < k) (sym (related .holds .lines)) (s .below) in
       read-compared task l b (premise-read (plainRefusal (p .lines) (read task l b)) p task l b g)
       ∙ ap (λ (x : Did Plain Compared). x .out) (plain-read p task l b (s .named) in-p (s .room))
-      ∙ ap (λ (t : Bool). visitBy t p l .out) (answers-true (p .plainLine l) (formed l (s .below)) g a)
+      ∙ ap (λ (t : Bool). visitBy t p l .out) a
+
+  read-answered : (task l : ℕ) (b : List ℕ) → ReadsLine m task l b → Premise (plainAfter m cs) l → answers (plainAfter m cs) l ≡ true
+      → deviceCall (deviceAfter m cws cs) (read task l b) .out ≡ line (plainAfter m cs .plainLine l .bytes)
+  unfolding visitBy
+  read-answered task l b s g a = read-visited task l b s g true a
+
+  -- where the line's own bytes answer
+  line-answered : (task l : ℕ) (b : List ℕ) → ReadsLine m task l b → LinePremise (plainAfter m cs .plainLine l)
+      → Answerable (damage (plainAfter m cs .plainLine l))
+      → deviceCall (deviceAfter m cws cs) (read task l b) .out ≡ line (plainAfter m cs .plainLine l .bytes)
+  line-answered task l b s g a =
+      let p : Plain = plainAfter m cs in
+      let f : Formed (p .plainLine l) = formed l (s .below) in
+      read-answered task l b s (premise-answerable p l f g a) (answers-true p l f g a)
 
 -- ---- a read after a list
 
@@ -65,30 +84,77 @@ module _ (m cws : List ℕ) (cs : List Call) (u : UnderPremise m cws cs) where
 pub one-chip-answers : OneChipAnswers
 one-chip-answers k m cws cs u task l b s o =
     let x : Line = plainAfter m cs .plainLine l in
-    read-answered m cws cs u task l b s (one-premise x k o) (one-answerable x k o)
+    line-answered m cws cs u task l b s (one-premise x k o) (one-answerable x k o)
 
 -- where no chip of the line has more than one bad bit
 pub one-bit-answers : OneBitAnswers
 one-bit-answers m cws cs u task l b s o =
     let x : Line = plainAfter m cs .plainLine l in
     let f : Formed x = formed m cws cs u l (s .below) in
-    read-answered m cws cs u task l b s (narrow-premise x f o) (narrow-answerable x f o)
+    line-answered m cws cs u task l b s (narrow-premise x f o) (narrow-answerable x f o)
 
 -- where one chip is beyond mending and no other has more than one bad bit
 pub one-beyond-answers : OneBeyondAnswers
 one-beyond-answers k m cws cs u task l b s o =
     let x : Line = plainAfter m cs .plainLine l in
     let f : Formed x = formed m cws cs u l (s .below) in
-    read-answered m cws cs u task l b s (beyond-premise x f k o) (beyond-answerable x f k o)
+    line-answered m cws cs u task l b s (beyond-premise x f k o) (beyond-answerable x f k o)
+
+-- in a bad row, whatever the bad chip's damage in the line
+pub bad-row-answers : BadRowAnswers
+bad-row-answers k m cws cs u task l b s o =
+    let p : Plain = plainAfter m cs in
+    let f : Formed (p .plainLine l) = formed m cws cs u l (s .below) in
+    read-answered m cws cs u task l b s (bad-premise p l k f o) (bad-answers p l k f o)
+
+-- an answer, or a 21 for which nobody is blamed
+pub refused-only : RefusedOnly
+unfolding visitBy
+refused-only m cws cs u task l b s g = by (ends p l f g)
+  where
+    p : Plain
+    p = plainAfter m cs
+
+    f : Formed (p .plainLine l)
+    f = formed m cws cs u l (s .below)
+
+    by : Ends p l
+        → (deviceCall (deviceAfter m cws cs) (read task l b) .out ≡ line (p .plainLine l .bytes))
+        ⊎ ((deviceCall (deviceAfter m cws cs) (read task l b) .out ≡ refused 21) × Refused p l)
+    by (decided a) = inl (read-answered m cws cs u task l b s g (answers-true p l f (g .line) a))
+    by (rightly r k c w e) = inl (read-answered m cws cs u task l b s g (answers-blamed p l f (g .line) k c w e))
+    by (nobody r none) =
+        inr (read-visited m cws cs u task l b s g false (answers-false p l f (g .line) r none), refused-shows p l f (g .line) r none)
 
 -- the premise leaves no more than one chip beyond mending
 pub answered-before : AnsweredBefore
-answered-before m cws cs u l words in-n g a =
+answered-before m cws cs u l words e in-n g a =
     let x : Line = plainAfter m cs .plainLine l in
     let few : beyondChips (lineAt (deviceAfter m cws cs .memory) l) words ≤ 1 =
     subst (λ (bytes : List ℕ). beyondChips bytes words ≤ 1) (sym (related m cws cs u .holds .each l in-n))
     (line-beyond x (formed m cws cs u l in-n) g words) in
-    former-answered (lineAt (deviceAfter m cws cs .memory) l) words few a
+    former-answered e (lineAt (deviceAfter m cws cs .memory) l) words few a
+
+-- what holds of the line, for the record and the memory
+same-visit : (task : ℕ) (d : Device) (l : ℕ)
+    → AsBeforeRows (evidenceOf (d .rank .lines) (d .memory) l (d .rank .«catch_words»)) (lineAt (d .memory) l) (d .rank .«catch_words»)
+    → SameVisit task d l
+unfolding visitBefore foundBefore visitOf reportIn bytesIn foundLine wordIn
+same-visit task d l same = (
+  λ i. record {
+    out = same .report i;
+    now = record { rank = afterVisit task (same .report i) (d .rank); memory = withLine (d .memory) l (same .bytes i) };
+  },
+  joined-ext _ _ 8 (λ k b. ap (bytesOf 8) (same .word k (omega arith))),
+)
+
+-- the line's own bytes answered it, and still do
+pub answered-before-rows : AnsweredBeforeRows
+unfolding visitBefore reportWith
+answered-before-rows task d l a = same-visit task d l (before-rows _ (lineAt (d .memory) l) (d .rank .«catch_words») a)
+
+pub undiagnosed-same : UndiagnosedSame
+undiagnosed-same task d l h = same-visit task d l (not-diagnosed-before _ (lineAt (d .memory) l) (d .rank .«catch_words») h)
 
 -- its answer is the plain memory's, which is the line written
 pub answered-read-line : AnsweredReadLine
@@ -118,7 +184,7 @@ answered-read-line m cws cs u task l b g z = by (plainRefusal (p .lines) (read t
     visited false q = ap (bytesOr (p .plainLine l .bytes)) q
 
     by : (n : ℕ) → line buffer ≡ plainBy n p (read task l b) .out → buffer ≡ p .plainLine l .bytes
-    by zero q = visited (answers (p .plainLine l)) q
+    by zero q = visited (answers p l) q
     by (suc n) q = ap (bytesOr (p .plainLine l .bytes)) q
 
 -- ---- one damaged chip, in three calls
@@ -191,7 +257,7 @@ one-fault-answers m cws cs u task l k b q buffer s chip size bytes nine fits c =
         at-step p₀ p₁ (write l b) (fault l k q ∷ read task l buffer ∷ []) done written
         (premise-write (plainRefusal (p₀ .lines) (write l b)) p₀ l b)
         (at-step p₁ p₂ (fault l k q) (read task l buffer ∷ []) done faulted-there (premise-fault (plainRefusal (p₁ .lines) (fault l k q)) p₁ l k q)
-        (premise-read (plainRefusal (p₂ .lines) (read task l buffer)) p₂ task l buffer (one-premise (p₂ .plainLine l) k one), tt))
+        (premise-read (plainRefusal (p₂ .lines) (read task l buffer)) p₂ task l buffer (premise-answerable p₂ l formed-there (one-premise (p₂ .plainLine l) k one) (one-answerable (p₂ .plainLine l) k one)), tt))
 
     from : FaithfulFrom (length m / 81) (deviceAfter m cws cs) p₀ three
     from =
@@ -205,5 +271,5 @@ one-fault-answers m cws cs u task l k b q buffer s chip size bytes nine fits c =
         ∙ ap (λ (ss : List Compared). done ∷ ss)
         (outs-step p₁ p₂ (fault l k q) (read task l buffer ∷ []) done faulted-there
         ∙ ap (λ (x : Did Plain Compared). done ∷ x .out ∷ []) (plain-read p₂ task l buffer (s .named) in-p (s .room))
-        ∙ ap (λ (a : Bool). done ∷ visitBy a p₂ l .out ∷ []) (answers-true (p₂ .plainLine l) formed-there (one-premise (p₂ .plainLine l) k one) (one-answerable (p₂ .plainLine l) k one))
+        ∙ ap (λ (a : Bool). done ∷ visitBy a p₂ l .out ∷ []) (answers-true p₂ l formed-there (one-premise (p₂ .plainLine l) k one) (one-answerable (p₂ .plainLine l) k one))
         ∙ ap (λ (x : List ℕ). done ∷ line x ∷ []) (ap (λ (x : Line). x .bytes) line-is ∙ fault-keeps-bytes b k q))

@@ -1,9 +1,9 @@
 -- The premise, and what the arguments' types say, as tests, so that both are settled by computation for a given list.
 -- Assumes nothing.
 use mathlib.Core.Path.{_≡_, sym, ap, _∙_}
-use mathlib.Core.Bool.{Bool, true, false, not, _&&_}
+use mathlib.Core.Bool.{Bool, true, false, not, _&&_, _||_}
 use mathlib.Core.List.{List, [], _∷_}
-use Prim.Native.Nat.{ℕ, zero, suc}
+use Prim.Native.Nat.{ℕ, zero, suc, _<_}
 use lib.Dec.{eqb, leb, ltb, lit<}
 use borrow.Author.Tests.{eqb-true, leb-true, ltb-true, not-false}
 use Rattle.code.specs.Code.{isCodeword}
@@ -14,18 +14,18 @@ use Rattle.words.specs.Bytes.{Bytes}
 use Rattle.words.specs.ByteLaws.{bytes-cons}
 use Rattle.code.specs.Lists.{Every}
 use Rattle.claims.specs.Lists.{Call, write, read, patrol, renew, fault, Typed}
-use Rattle.claims.specs.Plain.{Line, Plain, damage, wide, plainVisit, plainRefusal, visits, plainCall}
-use Rattle.claims.specs.Premises.{Premise, AtVisits, PremiseBy, AtCalls}
+use Rattle.claims.specs.Plain.{Line, Plain, damage, wide, blames, plainVisit, plainRefusal, visits, plainCall}
+use Rattle.claims.specs.Premises.{LinePremise, isDiagnosed, Premise, AtVisits, PremiseBy, AtCalls}
 
 -- a pattern other than zero that is a codeword
 abbrev hidden : Line → ℕ → Bool
 hidden x k = isCodeword (damage x k) && not (eqb (damage x k) 0)
 
-abbrev pub premiseHolds : Line → Bool
-premiseHolds x = eqb (count (hidden x) 9) 0 && leb (count (wide x) 9) 1
+abbrev pub lineHolds : Line → Bool
+lineHolds x = eqb (count (hidden x) 9) 0 && leb (count (wide x) 9) 1
 
-pub premise-holds : (x : Line) → premiseHolds x ≡ true → Premise x
-premise-holds x e =
+line-holds : (x : Line) → lineHolds x ≡ true → LinePremise x
+line-holds x e =
     let none : count (hidden x) 9 ≡ 0 = eqb-true (count (hidden x) 9) 0 (and-first (eqb (count (hidden x) 9) 0) few e) in
     record {
       detected = λ k l c. by k c (count-none (hidden x) 9 none k l);
@@ -40,16 +40,42 @@ premise-holds x e =
         eqb-true (damage x k) 0
         (not-false (eqb (damage x k) 0) (sym (ap (λ (t : Bool). t && not (eqb (damage x k) 0)) c) ∙ h))
 
+-- a chip that is blamed wrongly
+abbrev wronged : Plain → ℕ → ℕ → Bool
+wronged p l k = blames p l k && not (wide (p .plainLine l) k)
+
+-- no chip is, or the visit comes to no diagnosis
+abbrev rowHolds : Plain → ℕ → Bool
+rowHolds p l = not (isDiagnosed (p .plainLine l)) || eqb (count (wronged p l) 9) 0
+
+row-holds : (p : Plain) (l : ℕ) → rowHolds p l ≡ true → isDiagnosed (p .plainLine l) ≡ true
+    → (k : ℕ) → k < 9 → blames p l k ≡ true → wide (p .plainLine l) k ≡ true
+row-holds p l e d k b c =
+    let none : count (wronged p l) 9 ≡ 0 =
+    eqb-true (count (wronged p l) 9) 0 (sym (ap (λ (t : Bool). not t || eqb (count (wronged p l) 9) 0) d) ∙ e) in
+    not-false (wide (p .plainLine l) k)
+    (sym (ap (λ (t : Bool). t && not (wide (p .plainLine l) k)) c) ∙ count-none (wronged p l) 9 none k b)
+
+abbrev pub premiseHolds : Plain → ℕ → Bool
+premiseHolds p l = lineHolds (p .plainLine l) && rowHolds p l
+
+pub premise-holds : (p : Plain) (l : ℕ) → premiseHolds p l ≡ true → Premise p l
+premise-holds p l e =
+    record {
+      line = line-holds (p .plainLine l) (and-first (lineHolds (p .plainLine l)) (rowHolds p l) e);
+      onlyWide = row-holds p l (and-second (lineHolds (p .plainLine l)) (rowHolds p l) e);
+    }
+
 abbrev pub visitsHold : Plain → List ℕ → Bool
 visitsHold p [] = true
-visitsHold p (l ∷ ls) = premiseHolds (p .plainLine l) && visitsHold (plainVisit p l .now) ls
+visitsHold p (l ∷ ls) = premiseHolds p l && visitsHold (plainVisit p l .now) ls
 
 visits-hold : (ls : List ℕ) (p : Plain) → visitsHold p ls ≡ true → AtVisits p ls
 visits-hold [] p e = tt
 visits-hold (l ∷ ls) p e =
     let rest : Bool = visitsHold (plainVisit p l .now) ls in (
-      premise-holds (p .plainLine l) (and-first (premiseHolds (p .plainLine l)) rest e),
-      visits-hold ls (plainVisit p l .now) (and-second (premiseHolds (p .plainLine l)) rest e),
+      premise-holds p l (and-first (premiseHolds p l) rest e),
+      visits-hold ls (plainVisit p l .now) (and-second (premiseHolds p l) rest e),
     )
 
 abbrev pub callHolds : ℕ → Plain → Call → Bool

@@ -7,6 +7,7 @@ use mathlib.Core.List.{List, [], _∷_, _++_, map}
 use Prim.Native.Nat.{ℕ, zero, suc}
 use native.Mathlib.Omega.{arith}
 use Rattle.code.specs.Lists.{Every}
+use Rattle.line.specs.Blame.{Evidence}
 use Rattle.line.specs.Visit.{outcomeOf, ifAnswered, writtenBack, bytesAfter, reportOf, refusalOf}
 use Rattle.line.specs.declared.Report.{Report}
 use Rattle.line.specs.declared.Outcome.{Outcome}
@@ -14,6 +15,7 @@ use Rattle.line.specs.declared.Outcome.the-variants.{Answered, Unlocated, Uncor
 use Rattle.record.specs.declared.Rank.{Rank}
 use Rattle.record.specs.Record.{fresh, afterVisit}
 use Rattle.memory.specs.Lines.{lineAt, withLine}
+use Rattle.rows.specs.Rows.{evidenceOf, reportIn, bytesIn}
 use Rattle.memory.specs.LineLaws.{line-same}
 use Rattle.refusals.specs.Refusals.{lineOut, bufferOut, chipOut, patternOut, catchWordsOut, memoryOut, notReady, memoryDiffers, registerDiffers, unlocated, uncorrectable, taskOut, refusedIf, refused20, refused21, refused2, firstOf, visitRefusals, bootRefusal, writeRefusal, readTests, readRefusal, patrolRefusal, renewRefusal, faultRefusal}
 use Rattle.refusals.specs.RefusalLaws.{first-of-both}
@@ -89,7 +91,7 @@ visit-keeps Unlocated h a a' b b' c c' = (refl, refl, refl)
 visit-keeps Uncorrectable h a a' b b' c c' = (refl, refl, refl)
 
 pub read-refusals : (r : Rank) (m : List ℕ) (task l : ℕ) (b : List ℕ) → ReadRefusals r m task l b
-unfolding readOf readBy resultOf visitOf reportOf bytesAfter afterVisit readTests readRefusal
+unfolding readOf readBy resultOf visitOf reportIn reportOf bytesIn bytesAfter afterVisit readTests readRefusal
 read-refusals r m task l b =
     record {
       number = number;
@@ -102,8 +104,8 @@ read-refusals r m task l b =
           ∷ (taskOut task, 30)
           ∷ (lineOut r l, 0)
           ∷ (bufferOut b, 1)
-          ∷ (unlocated x cws, 19)
-          ∷ (uncorrectable x cws, 20)
+          ∷ (unlocated r m l, 19)
+          ∷ (uncorrectable r m l, 20)
           ∷ []
           ));
       keeps = keeps (readTests r m task l b);
@@ -117,23 +119,26 @@ read-refusals r m task l b =
     x : List ℕ
     x = lineAt m l
 
+    e : Evidence
+    e = evidenceOf (r .lines) m l (r .«catch_words»)
+
     v : Report
-    v = reportOf (lineAt m l) (r .«catch_words»)
+    v = reportIn (r .lines) m l (r .«catch_words»)
 
     -- its own number, or that of the visit
-    is : (n : ℕ) → readBy n r m task l b .result .refusal ≡ firstOf (n ∷ refused20 x cws ∷ refused21 x cws ∷ [])
-    is zero = visit-refusal x cws
+    is : (n : ℕ) → readBy n r m task l b .result .refusal ≡ firstOf (n ∷ refused20 r m l ∷ refused21 r m l ∷ [])
+    is zero = visit-refusal r m l
     is (suc n) = refl
 
-    number : readBy (readTests r m task l b) r m task l b .result .refusal ≡ readRefusal r m task l b (lineAt m l)
+    number : readBy (readTests r m task l b) r m task l b .result .refusal ≡ readRefusal r m task l b
     number =
         is (readTests r m task l b)
-        ∙ first-of-both (visitRefusals r m task l ++ (refused2 b ∷ [])) (refused20 x cws ∷ refused21 x cws ∷ [])
+        ∙ first-of-both (visitRefusals r m task l ++ (refused2 b ∷ [])) (refused20 r m l ∷ refused21 r m l ∷ [])
 
     keeps : (n : ℕ) → readBy n r m task l b .result .refusal ≢ 0
         → (readBy n r m task l b .memory ≡ m) × (readBy n r m task l b .buffer ≡ b) × (readBy n r m task l b .result .rank ≡ r)
     keeps zero h =
-        let k = visit-keeps (outcomeOf x cws) h (writtenBack x cws) x _ b _ r in
+        let k = visit-keeps (outcomeOf e x cws) h (writtenBack e x cws) x _ b _ r in
         (ap (withLine m l) (k .0) ∙ line-same m l, k .1, k .2)
     keeps (suc n) h = (refl, refl, refl)
 

@@ -13,10 +13,12 @@ use Rattle.words.specs.ByteLaws.{bytes-cons, bytes-tail, bytes-append, bytes-ze
 use Rattle.cells.specs.Cells.{chipAt, codeword, withChip, lineWord, stored}
 use Rattle.cells.specs.CellLaws.{bytes-codeword}
 use Rattle.passes.specs.Passes.{isFlagged}
+use Rattle.line.specs.Blame.{Evidence}
 use Rattle.line.specs.Visit.{outcomeOf, wordOf, withWords, writtenBack, bytesAfter}
 use Rattle.line.specs.OutcomeLaws.{either-answered}
 use Rattle.visits.specs.Runs.{Did, end}
 use Rattle.memory.specs.Lines.{lineAt, withLine, faulted}
+use Rattle.rows.specs.Rows.{bytesIn}
 use Rattle.memory.specs.LineLaws.{bytes-line}
 use Rattle.record.specs.Record.{fresh, renewed}
 use Rattle.refusals.specs.Refusals.{bootRefusal}
@@ -70,20 +72,20 @@ unfolding faulted withChip
 bytes-faulted x k q h g = bytes-sets (xorBytes (chipAt x k) q) x (9 * k) h (bytes-xor (chipAt x k) q (bytes-chip x k h) g)
 
 -- a line after a visit
-bytes-after : (x cws : List ℕ) → Bytes x → Bytes (bytesAfter x cws)
+bytes-after : (e : Evidence) (x cws : List ℕ) → Bytes x → Bytes (bytesAfter e x cws)
 unfolding bytesAfter writtenBack withWords
-bytes-after x cws h = either-answered Bytes (outcomeOf x cws) (bytes-joined _ 9 (λ k. either k (isFlagged x cws k))) h
+bytes-after e x cws h = either-answered Bytes (outcomeOf e x cws) (bytes-joined _ 9 (λ k. either k (isFlagged x cws k))) h
   where
-    either : (k : ℕ) (b : Bool) → Bytes (cond b (codeword (wordOf x cws k)) (chipAt x k))
-    either k true = bytes-codeword (wordOf x cws k)
+    either : (k : ℕ) (b : Bool) → Bytes (cond b (codeword (wordOf e x cws k)) (chipAt x k))
+    either k true = bytes-codeword (wordOf e x cws k)
     either k false = bytes-chip x k h
 
 -- ---- visits and calls
 
 -- the memory after a visit
 pub visit-bytes : (task : ℕ) (d : Device) (l : ℕ) → Bytes (d .memory) → Bytes (visitOf task d l .now .memory)
-unfolding visitOf
-visit-bytes task d l h = bytes-laid (d .memory) l _ h (bytes-after (lineAt (d .memory) l) _ (bytes-line (d .memory) l h))
+unfolding visitOf bytesIn
+visit-bytes task d l h = bytes-laid (d .memory) l _ h (bytes-after _ (lineAt (d .memory) l) _ (bytes-line (d .memory) l h))
 
 -- after several
 visits-bytes : (task : ℕ) (ls : List ℕ) (d : Device) → Bytes (d .memory) → Bytes (end (visitOf task) d ls .memory)

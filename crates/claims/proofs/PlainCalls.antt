@@ -52,7 +52,7 @@ unfolding withPlainLine
 with-here p l x = rw (eq-eqb l l refl)
 
 -- the premise at a read, whether refused or not
-pub premise-read : (n : ℕ) (p : Plain) (task l : ℕ) (b : List ℕ) → Premise (p .plainLine l) → PremiseBy n p (read task l b)
+pub premise-read : (n : ℕ) (p : Plain) (task l : ℕ) (b : List ℕ) → Premise p l → PremiseBy n p (read task l b)
 premise-read zero p task l b h = (h, tt)
 premise-read (suc n) p task l b h = tt
 

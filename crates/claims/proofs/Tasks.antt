@@ -8,12 +8,14 @@ use Prim.Native.Nat.{ℕ, zero, suc, _-_, min}
 use lib.Dec.{ltb}
 use lib.ListN.{length}
 use Rattle.cells.specs.Cells.{lineWord, stored}
-use Rattle.line.specs.Visit.{ifAnswered, reportOf}
+use Rattle.line.specs.Visit.{ifAnswered}
 use Rattle.line.specs.declared.Report.{Report}
 use Rattle.line.specs.declared.Outcome.{Outcome}
 use Rattle.line.specs.declared.Outcome.the-variants.{Answered, Unlocated, Uncorrectable}
-use Rattle.visits.specs.Runs.{Did, outs, end, upFrom}
+use Rattle.visits.specs.Runs.{Did, outs, end}
+use Rattle.code.specs.Lists.{upFrom}
 use Rattle.memory.specs.Lines.{lineAt, withLine, faulted}
+use Rattle.rows.specs.Rows.{reportIn}
 use Rattle.record.specs.Record.{afterAnswer, afterVisit, renewed}
 use Rattle.refusals.specs.Refusals.{notReady, memoryDiffers, registerDiffers, taskOut, lineOut, bufferOut, refusedIf, firstOf, stateRefusals, writeRefusal, readTests, patrolRefusal, renewRefusal, faultRefusal}
 use Rattle.visits.specs.Visits.{Device, visitOf, readBy, resultOf, refusedIn, rewrittenIn}
@@ -37,7 +39,7 @@ unfolding untotalled visitOf afterVisit afterAnswer
 visit-untotalled task d l = by (v .outcome)
   where
     v : Report
-    v = reportOf (lineAt (d .memory) l) (d .rank .«catch_words»)
+    v = reportIn (d .rank .lines) (d .memory) l (d .rank .«catch_words»)
 
     by : (o : Outcome)
         → untotalled (record { rank = ifAnswered o (afterAnswer task v (d .rank)) (d .rank); memory = visitOf task d l .now .memory })
@@ -52,7 +54,7 @@ visit-alike : (task other : ℕ) (d e : Device) (l : ℕ) → Same d e
 unfolding untotalled visitOf
 visit-alike task other d e l h =
     record {
-      same = ap (λ (x : Device). reportOf (lineAt (x .memory) l) (x .rank .«catch_words»)) h;
+      same = ap (λ (x : Device). reportIn (x .rank .lines) (x .memory) l (x .rank .«catch_words»)) h;
       now-related =
           visit-untotalled task d l ∙ ap (λ (x : Device). untotalled (visitOf 0 x l .now)) h ∙ sym (visit-untotalled other e l);
     }

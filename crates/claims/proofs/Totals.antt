@@ -11,12 +11,14 @@ use lib.Count.{ones}
 use lib.Dec.{eqb}
 use lib.ListN.{length, getD, replicate, getD-replicate}
 use borrow.Author.Tests.{eqb-true, eqb-false, ne-eqb}
-use Rattle.line.specs.Visit.{outcomeOf, ifAnswered, reportOf, refusalOf}
+use Rattle.line.specs.Visit.{ifAnswered, refusalOf}
 use Rattle.line.specs.declared.Report.{Report}
 use Rattle.line.specs.declared.Outcome.{Outcome}
 use Rattle.line.specs.declared.Outcome.the-variants.{Answered, Unlocated, Uncorrectable}
-use Rattle.visits.specs.Runs.{outs, end, upFrom, sumOf}
-use Rattle.memory.specs.Lines.{lineAt}
+use Rattle.visits.specs.Runs.{outs, end}
+use Rattle.code.specs.Lists.{upFrom, sumOf}
+use Rattle.code.specs.ListLaws.{sum-range}
+use Rattle.rows.specs.Rows.{reportIn}
 use Rattle.record.specs.Record.{totalLimit, fresh, booted, counted, afterAnswer, afterVisit, renewed}
 use Rattle.record.specs.RecordLaws.{length-counted, counted-own, counted-other}
 use Rattle.refusals.specs.Refusals.{bootRefusal, writeRefusal, readTests, patrolRefusal, renewRefusal, faultRefusal}
@@ -75,11 +77,9 @@ read-is Uncorrectable flagged = refl
 pub read-rewrites : (d : Device) (task l : ℕ) (b : List ℕ)
     → rewritesBy (readBy 0 (d .rank) (d .memory) task l b .result .refusal) (readBy 0 (d .rank) (d .memory) task l b .result .flagged)
     ≡ rewrittenIn (outs (visitOf task) d (l ∷ []))
-unfolding readBy resultOf visitOf reportOf rewrittenIn
+unfolding readBy resultOf visitOf rewrittenIn
 read-rewrites d task l b =
-    let bytes : List ℕ = lineAt (d .memory) l in
-    let cws : List ℕ = d .rank .«catch_words» in
-    read-is (outcomeOf bytes cws) _ ∙ sym (add-zero _)
+    read-is (reportIn (d .rank .lines) (d .memory) l (d .rank .«catch_words») .outcome) _ ∙ sym (add-zero _)
 
 module _ (t : ℕ) (below : t < 8) (task : ℕ) where
   -- what n more repairs for the task are for task t
@@ -111,7 +111,7 @@ module _ (t : ℕ) (below : t < 8) (task : ℕ) where
   visit-grown d l f = by (v .outcome)
     where
       v : Report
-      v = reportOf (lineAt (d .memory) l) (d .rank .«catch_words»)
+      v = reportIn (d .rank .lines) (d .memory) l (d .rank .«catch_words»)
 
       -- a refused visit leaves the totals
       kept : Grown t (part 0) d (record { rank = d .rank; memory = visitOf task d l .now .memory })
@@ -195,12 +195,6 @@ module _ (t : ℕ) (below : t < 8) where
 
 -- ---- sums
 
--- terms that are the same
-pub sum-ext : (f g : ℕ → ℕ) (n a : ℕ) → ((t : ℕ) → t < a + n → f t ≡ g t) → sumOf f (upFrom a n) ≡ sumOf g (upFrom a n)
-sum-ext f g zero a h = refl
-sum-ext f g (suc n) a h =
-    ap₂ (λ (x y : ℕ). x + y) (h a (omega arith)) (sum-ext f g n (suc a) (λ t l. h t (omega arith)))
-
 -- terms that are no more
 sum-most : (f g : ℕ → ℕ) (n a : ℕ) → ((t : ℕ) → t < a + n → f t ≤ g t) → sumOf f (upFrom a n) ≤ sumOf g (upFrom a n)
 sum-most f g zero a h = omega arith
@@ -283,7 +277,7 @@ totals-counted m cws cs =
     record {
       eight = grown 0 (omega arith) .eight;
       each = each;
-      sum = λ below-limit. sum-ext (λ t. totalOf t end-device) words 8 0 (λ t l. exact t l (below-limit t l)) ∙ calls-parts cs d;
+      sum = λ below-limit. sum-range (λ t. totalOf t end-device) words 0 8 (λ t _ l. exact t l (below-limit t l)) ∙ calls-parts cs d;
       others = exact;
       most = omega (arith, calls-parts cs d, sum-most (λ t. totalOf t end-device) words 8 0 (λ t l. omega (arith, each t l)));
     }

@@ -8,10 +8,9 @@ use mathlib.Core.Bool.{Bool, false}
 use mathlib.Core.List.{List, [], _∷_}
 use Prim.Native.Nat.{ℕ}
 use Rattle.code.specs.Lists.{Every}
-use Rattle.line.specs.Visit.{reportOf}
 use Rattle.record.specs.declared.Rank.{Rank}
 use Rattle.record.specs.Record.{fresh}
-use Rattle.memory.specs.Lines.{lineAt}
+use Rattle.rows.specs.Rows.{reportIn}
 use Rattle.refusals.specs.Refusals.{lineOut, bufferOut, chipOut, patternOut, catchWordsOut, memoryOut, notReady, memoryDiffers, registerDiffers, unlocated, uncorrectable, taskOut, bootRefusal, writeRefusal, readTests, readRefusal, patrolRefusal, renewRefusal, faultRefusal}
 use Rattle.rank.specs.Calls.{bootOf, writeOf, readOf, patrolOf, renewOf, faultOf}
 
@@ -34,10 +33,10 @@ pub record WriteRefusals (r : Rank) (m : List ℕ) (l : ℕ) (b : List ℕ) : Ty
 
 -- read: 20 and 21 too
 pub record ReadRefusals (r : Rank) (m : List ℕ) (task l : ℕ) (b : List ℕ) : Type 0 where
-  pub number : readOf r m task l b .result .refusal ≡ readRefusal r m task l b (lineAt m l)
+  pub number : readOf r m task l b .result .refusal ≡ readRefusal r m task l b
   pub accepts : (readOf r m task l b .result .refusal ≡ 0)
       ↔ None (notReady r ∷ memoryDiffers r m ∷ registerDiffers r ∷ taskOut task ∷ lineOut r l ∷ bufferOut b
-      ∷ unlocated (lineAt m l) (r .«catch_words») ∷ uncorrectable (lineAt m l) (r .«catch_words») ∷ [])
+      ∷ unlocated r m l ∷ uncorrectable r m l ∷ [])
   pub keeps : readOf r m task l b .result .refusal ≢ 0
       → (readOf r m task l b .memory ≡ m) × (readOf r m task l b .buffer ≡ b) × (readOf r m task l b .result .rank ≡ r)
   -- passes and masks are zero where no visit is made
@@ -45,9 +44,9 @@ pub record ReadRefusals (r : Rank) (m : List ℕ) (task l : ℕ) (b : List ℕ) 
       → (readOf r m task l b .result .passes ≡ 0) × (readOf r m task l b .result .flagged ≡ 0) × (readOf r m task l b .result .collisions ≡ 0)
   -- and else those reached, with 20 and 21 too
   pub reached : readTests r m task l b ≡ 0
-      → (readOf r m task l b .result .passes ≡ reportOf (lineAt m l) (r .«catch_words») .passes)
-      × (readOf r m task l b .result .flagged ≡ reportOf (lineAt m l) (r .«catch_words») .flagged)
-      × (readOf r m task l b .result .collisions ≡ reportOf (lineAt m l) (r .«catch_words») .collisions)
+      → (readOf r m task l b .result .passes ≡ reportIn (r .lines) m l (r .«catch_words») .passes)
+      × (readOf r m task l b .result .flagged ≡ reportIn (r .lines) m l (r .«catch_words») .flagged)
+      × (readOf r m task l b .result .collisions ≡ reportIn (r .lines) m l (r .«catch_words») .collisions)
 
 -- patrol: no 20 or 21 of its own
 pub record PatrolRefusals (r : Rank) (m : List ℕ) (task first budget : ℕ) : Type 0 where

@@ -13,8 +13,11 @@ use Rattle.cells.specs.Chips.{count, ofChips, joined, xorAll, mask, inMask}
 use Rattle.words.specs.Bytes.{numberOf, bytesOf, bytesFrom}
 use Rattle.cells.specs.Cells.{chipAt, wordAt, checkAt, cellAt, codeword, withChip}
 use Rattle.passes.specs.Passes.{sends, sentAt, catchWord, passOne, isCandidate, complement, passTwo, sentComplement, isFlagged, isCollision, flaggedChips, xorOthers, passThree, chipStatus, isFlaggedBeyond, beyondChips}
-use Rattle.line.specs.Visit.{mustCancel, thirdOutcome, thirdWord, outcomeBy, wordBy, outcomeOf, wordOf, withWords, writtenBack, bytesAfter, reportOf, refusalOf}
-use Rattle.visits.specs.Runs.{end, sumOf}
+use Rattle.line.specs.Blame.{reaches, otherReaches, isBlamed, blamedChips}
+use Rattle.line.specs.Visit.{mustCancel, thirdFinding, thirdWord, findingBy, ownWordBy, findingOf, ownWord, ownPasses, outcomeBy, wordBy, rowPasses, outcomeOf, wordOf, withWords, writtenBack, bytesAfter, reportOf, refusalOf}
+use Rattle.visits.specs.Runs.{end}
+use Rattle.code.specs.Lists.{sumOf}
+use Rattle.rows.specs.Rows.{rowFirst, rowSize, otherLines, evidenceOf, reportIn, wordIn, bytesIn}
 use Rattle.memory.specs.Lines.{lineAt, withLine, faulted}
 use Rattle.record.specs.Record.{totalLimit, booted, moved, grown, counted, afterAnswer, afterVisit}
 use Rattle.refusals.specs.Refusals.{memoryOut, catchWordsOut, bootRefusal, lineOut, bufferOut, chipOut, patternOut, notReady, memoryDiffers, registerDiffers, taskOut, readTests, patrolRefusal, faultRefusal}
@@ -62,7 +65,8 @@ unfolding after bootedDevice bootOf bootBy bootRefusal memoryOut catchWordsOut b
     patrolOf patrolBy patrolLines patrolled patrolRefusal faultOf faultBy faulted faultRefusal lineOut bufferOut chipOut patternOut
     notReady memoryDiffers registerDiffers taskOut visitOf afterVisit afterAnswer moved grown counted lineAt withLine sends sentAt catchWord
     passOne isCandidate complement passTwo sentComplement isFlagged isCollision flaggedChips mustCancel xorOthers passThree chipStatus isFlaggedBeyond
-    beyondChips thirdOutcome thirdWord statusOf statusAt isBeyond outcomeBy wordBy outcomeOf wordOf withWords writtenBack bytesAfter reportOf refusalOf count ofChips joined xorAll mask inMask numberOf bytesOf
+    beyondChips thirdFinding thirdWord statusOf statusAt isBeyond findingBy ownWordBy findingOf ownWord ownPasses outcomeBy wordBy rowPasses outcomeOf wordOf reportIn wordIn bytesIn evidenceOf otherLines rowFirst rowSize
+    isBlamed blamedChips reaches otherReaches withWords writtenBack bytesAfter reportOf refusalOf count ofChips joined xorAll mask inMask numberOf bytesOf
     bytesFrom chipAt wordAt checkAt cellAt codeword withChip isCodeword syndromeOf remainder remainderIn timesX syndromeAt positionFrom
     positionOf bitAt mended mendedWord checkOf ones onesIn
 totals-shown = (refl, refl)

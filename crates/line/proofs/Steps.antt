@@ -20,20 +20,22 @@ use Rattle.cells.specs.ChipLaws.{joined-ext, xorAll-but, count-none, count-one,
 use Rattle.cells.specs.MaskLaws.{no-ones, TakenOff}
 use Rattle.cells.specs.Cells.{cellAt, chipAt, codeword}
 use Rattle.passes.specs.Passes.{catchWord, passOne, passThree, chipStatus, isFlaggedBeyond, beyondChips, isCandidate, sentComplement, isFlagged, isCollision, flaggedChips, xorOthers}
-use Rattle.line.specs.Visit.{thirdOutcome, thirdWord, mustCancel, outcomeBy, outcomeOf, wordBy, wordOf, ifAnswered, withWords, writtenBack, bytesAfter, passesOf, reportOf}
-use Rattle.line.specs.Found.{ChecksIfAnswered}
+use Rattle.line.specs.Visit.{thirdFinding, thirdWord, mustCancel, findingBy, findingOf, ownWordBy, ownWord, ownPasses, examinedOf}
+use Rattle.line.specs.Found.{mayAnswer, ChecksUnlessRefused}
 use Rattle.passes.specs.PassLaws.{third-sent, flagged-beyond-is}
+use Rattle.line.proofs.Places.{placed-set, checked-set}
 use Rattle.cells.proofs.Loops.{pending-all, pending-lowest, member-is}
-use Rattle.line.specs.declared.Report.{Report}
-use Rattle.line.specs.declared.Outcome.{Outcome}
+use Rattle.line.specs.declared.Examined.{Examined}
 use Rattle.line.specs.declared.Outcome.the-variants.{Answered, Unlocated, Uncorrectable}
+use Rattle.line.specs.declared.Finding.{Finding}
+use Rattle.line.specs.declared.Finding.the-variants.{Decided, Undecided}
 use Rattle.passes.proofs.Masks.{collisions-rest}
 
 module _ (m cws : List ℕ) where
   -- the passes made, by the candidates and the flagged chips
   pub passes-made : {c f n : ℕ} → c ≡ mask (isCandidate m cws) 9 → f ≡ mask (isFlagged m cws) 9 → n ≡ cond (eqb c 0) 1 (cond (ltb 1 (ones f)) 3 2)
-      → n ≡ passesOf m cws
-  unfolding passesOf flaggedChips isFlagged
+      → n ≡ ownPasses m cws
+  unfolding ownPasses flaggedChips isFlagged
   passes-made {c} {f} ec ef en =
       en ∙ ap (λ (k : ℕ). cond (eqb c 0) 1 (cond (ltb 1 k) 3 2)) (ap ones ef ∙ ones-mask (isFlagged m cws) 9) ∙ pick (eqb c 0) refl
     where
@@ -48,7 +50,7 @@ module _ (m cws : List ℕ) where
       by true = refl
       by false = refl
 
-      pick : (b : Bool) → eqb c 0 ≡ b → cond b 1 (cond (ltb 1 (count (isFlagged m cws) 9)) 3 2) ≡ passesOf m cws
+      pick : (b : Bool) → eqb c 0 ≡ b → cond b 1 (cond (ltb 1 (count (isFlagged m cws) 9)) 3 2) ≡ ownPasses m cws
       pick true e =
           let none : count (isCandidate m cws) 9 ≡ 0 = mask-count (isCandidate m cws) 9 (sym ec ∙ eqb-true c 0 e) in
           let no-flag : count (isFlagged m cws) 9 ≡ 0 = omega (arith, few) in
@@ -58,31 +60,6 @@ module _ (m cws : List ℕ) where
           ∙ rw (lt-ltb 0 (count (isCandidate m cws) 9) (some _ (λ z. eqb-false c 0 e (ec ∙ count-mask (isCandidate m cws) 9 z))))
 
 -- ---- steps 3 to 5
-
--- a value put at chip k's place
-module _ (p : ℕ → Bool) (ws : List ℕ) (k v : ℕ) (size : length ws ≡ 9) (h : k < 9) where
-  own : getD (set ws k v) k 0 ≡ v
-  own = getD-set-same ws k v 0 (omega (arith, size))
-
-  pub placed-set : (f : ℕ → ℕ) → v ≡ f k → ((j : ℕ) → j < 9 → p j ≡ true → (j ≡ k → ⊥) → getD ws j 0 ≡ f j) → AtPlaces p f (set ws k v) 9
-  placed-set f e o = record { at = λ j l t. pick j l t (eqb j k) refl }
-    where
-      pick : (j : ℕ) → j < 9 → p j ≡ true → (b : Bool) → eqb j k ≡ b → getD (set ws k v) j 0 ≡ f j
-      pick j l t true q = let i : j ≡ k = eqb-true j k q in ap (λ (x : ℕ). getD (set ws k v) x 0) i ∙ own ∙ e ∙ ap f (sym i)
-      pick j l t false q = getD-set-other ws k j v 0 (eqb-false j k q) ∙ o j l t (eqb-false j k q)
-
-  -- and its check byte
-  pub checked-set : (cs : List ℕ) → length cs ≡ 9 → {c : ℕ} → c ≡ checkOf v
-      → ((j : ℕ) → j < 9 → p j ≡ true → (j ≡ k → ⊥) → getD cs j 0 ≡ checkOf (getD ws j 0)) → AtPlaces p (λ j. checkOf (getD (set ws k v) j 0)) (set cs k c) 9
-  checked-set cs n {c} e o = record { at = λ j l t. pick j l t (eqb j k) refl }
-    where
-      pick : (j : ℕ) → j < 9 → p j ≡ true → (b : Bool) → eqb j k ≡ b → getD (set cs k c) j 0 ≡ checkOf (getD (set ws k v) j 0)
-      pick j l t true q =
-          let i : j ≡ k = eqb-true j k q in
-          ap (λ (x : ℕ). getD (set cs k c) x 0) i ∙ getD-set-same cs k c 0 (omega (arith, n)) ∙ e ∙ ap checkOf (sym own)
-          ∙ ap (λ (x : ℕ). checkOf (getD (set ws k v) x 0)) (sym i)
-      pick j l t false q =
-          getD-set-other cs k j c 0 (eqb-false j k q) ∙ o j l t (eqb-false j k q) ∙ ap checkOf (sym (getD-set-other ws k j v 0 (eqb-false j k q)))
 
 -- a number other than 0 and 1 is two or more
 from-two : (P : ℕ → Type 0) (n : ℕ) → (n ≡ 0 → ⊥) → (n ≡ 1 → ⊥) → ((i : ℕ) → P (suc (suc i))) → P n
@@ -98,18 +75,14 @@ not-that : (b : Bool) → (b ≡ true → ⊥) → b ≡ false
 not-that true h = absurd (h refl)
 not-that false h = refl
 
--- a refusal is no answer
-refused : Uncorrectable ≡ Answered → ⊥
-refused e = true≢false (sym (ap (λ (o : Outcome). ifAnswered o true false) e))
-
--- an outcome, the flagged chips' words and their check bytes are those of steps 3 to 5
-abbrev pub Found : List ℕ → List ℕ → Outcome → List ℕ → List ℕ → Type 0
+-- a finding, the flagged chips' words and their check bytes are those of steps 3 to 5
+abbrev pub Found : List ℕ → List ℕ → Finding → List ℕ → List ℕ → Type 0
 Found m cws o ws cs =
-    (o ≡ outcomeOf m cws)
-    × (AtPlaces (isFlagged m cws) (wordOf m cws) ws 9 × (ChecksIfAnswered o (isFlagged m cws) ws cs × ((length ws ≡ 9) × (length cs ≡ 9))))
+    (o ≡ findingOf m cws)
+    × (AtPlaces (isFlagged m cws) (ownWord m cws) ws 9 × (ChecksUnlessRefused o (isFlagged m cws) ws cs × ((length ws ≡ 9) × (length cs ≡ 9))))
 
 -- the same, of lists that are equal to the first
-found-as : (m cws : List ℕ) {o : Outcome} {ws cs ws' cs' : List ℕ} → ws' ≡ ws → cs' ≡ cs → Found m cws o ws cs → Found m cws o ws' cs'
+found-as : (m cws : List ℕ) {o : Finding} {ws cs ws' cs' : List ℕ} → ws' ≡ ws → cs' ≡ cs → Found m cws o ws cs → Found m cws o ws' cs'
 found-as m cws {o} {ws} {cs} {ws'} {cs'} ew ec h = subst⁻¹ (λ (t : List ℕ). Found m cws o t cs') ew (subst⁻¹ (Found m cws o ws) ec h)
 
 -- the lowest chip of a mask that has some
@@ -139,8 +112,8 @@ module _ (m cws : List ℕ) (f : ℕ) (ef : f ≡ mask (isFlagged m cws) 9) wher
       unfolding flaggedChips
       none k l t = absurd (true≢false (sym t ∙ count-none (isFlagged m cws) 9 zero-chips k l))
 
-      pub none-found : {o : Outcome} → o ≡ cond (eqb p 0) Answered Unlocated → (ws cs : List ℕ) → length ws ≡ 9 → length cs ≡ 9 → Found m cws o ws cs
-      unfolding outcomeOf outcomeBy mustCancel
+      pub none-found : {o : Finding} → o ≡ cond (eqb p 0) (Decided Answered) (Decided Unlocated) → (ws cs : List ℕ) → length ws ≡ 9 → length cs ≡ 9 → Found m cws o ws cs
+      unfolding findingOf findingBy mustCancel
       none-found q ws cs n i =
           (rw (zero-chips, ← ep) q, (record { at = λ k l t. none k l t }, ((λ a. record { at = λ k l t. none k l t }), (n, i))))
 
@@ -149,9 +122,9 @@ module _ (m cws : List ℕ) (f : ℕ) (ef : f ≡ mask (isFlagged m cws) 9) wher
       one-chip : flaggedChips m cws ≡ 1
       one-chip = sym chips ∙ e
 
-      one-outcome : Answered ≡ outcomeOf m cws
-      unfolding outcomeOf outcomeBy
-      one-outcome = rw one-chip
+      one-finding : Decided Answered ≡ findingOf m cws
+      unfolding findingOf findingBy
+      one-finding = rw one-chip
 
       -- a flagged chip's catch-word, taken off the xor of all nine, leaves that of the other eight
       taken-off : (k : ℕ) → k < 9 → isFlagged m cws k ≡ true → bitXor p (catchWord cws k) ≡ xorOthers (passOne m cws) k
@@ -161,20 +134,20 @@ module _ (m cws : List ℕ) (f : ℕ) (ef : f ≡ mask (isFlagged m cws) 9) wher
           ap₂ bitXor (ep ∙ xorAll-but (passOne m cws) 9 k l) (sym sent) ∙ xor-cancel-r _ (passOne m cws k)
 
       pub one-found : {k t : ℕ} → TakenOff f k t → (ws cs : List ℕ) → length ws ≡ 9 → length cs ≡ 9 → {ws' cs' : List ℕ}
-          → ws' ≡ set ws k (bitXor p (catchWord cws k)) → cs' ≡ set cs k (checkOf (bitXor p (catchWord cws k))) → Found m cws Answered ws' cs'
-      unfolding wordOf wordBy
+          → ws' ≡ set ws k (bitXor p (catchWord cws k)) → cs' ≡ set cs k (checkOf (bitXor p (catchWord cws k))) → Found m cws (Decided Answered) ws' cs'
+      unfolding ownWord ownWordBy
       one-found {k} h ws cs n q ew ec =
           let v : ℕ = bitXor p (catchWord cws k) in
           let flagged : isFlagged m cws k ≡ true = sym (member-is (isFlagged m cws) ef (h .below) refl) ∙ h .member in
-          let word : v ≡ wordOf m cws k =
+          let word : v ≡ ownWord m cws k =
           taken-off k (h .below) flagged
-          ∙ sym (ap (λ (i : ℕ). wordBy i m cws k) one-chip ∙ ap (λ (b : Bool). cond b (xorOthers (passOne m cws) k) (passOne m cws k)) flagged) in
+          ∙ sym (ap (λ (i : ℕ). ownWordBy i m cws k) one-chip ∙ ap (λ (b : Bool). cond b (xorOthers (passOne m cws) k) (passOne m cws k)) flagged) in
           let lone : (A : Type 0) (j : ℕ) → j < 9 → isFlagged m cws j ≡ true → (j ≡ k → ⊥) → A =
           λ A j l t ne. absurd (ne (only-one (isFlagged m cws) ef e h j l t)) in
           found-as m cws ew ec (
-            one-outcome,
+            one-finding,
             (
-              placed-set (isFlagged m cws) ws k v n (h .below) (wordOf m cws) word (λ j. lone _ j),
+              placed-set (isFlagged m cws) ws k v n (h .below) (ownWord m cws) word (λ j. lone _ j),
               (
                 (λ a. checked-set (isFlagged m cws) ws k v n (h .below) cs q refl (λ j. lone _ j)),
                 (length-set ws k v ∙ n, length-set cs k _ ∙ q),
@@ -188,13 +161,13 @@ module _ (m cws : List ℕ) (f : ℕ) (ef : f ≡ mask (isFlagged m cws) 9) wher
     several P h = from-two P (flaggedChips m cws) (λ e. omega (arith, chips)) (λ e. omega (arith, chips)) h
 
     -- by how many of them are beyond mending
-    several-outcome : (i : ℕ) → beyondChips m cws ≡ i → thirdOutcome i m cws ≡ outcomeOf m cws
-    unfolding outcomeOf outcomeBy
-    several-outcome i e = several (λ n. thirdOutcome i m cws ≡ outcomeBy n m cws) (λ n. ap (λ (j : ℕ). thirdOutcome j m cws) (sym e))
+    several-finding : (i : ℕ) → beyondChips m cws ≡ i → thirdFinding i m cws ≡ findingOf m cws
+    unfolding findingOf findingBy
+    several-finding i e = several (λ n. thirdFinding i m cws ≡ findingBy n m cws) (λ n. ap (λ (j : ℕ). thirdFinding j m cws) (sym e))
 
-    several-word : (i : ℕ) → beyondChips m cws ≡ i → (k : ℕ) → thirdWord i m cws k ≡ wordOf m cws k
-    unfolding wordOf wordBy
-    several-word i e k = several (λ n. thirdWord i m cws k ≡ wordBy n m cws k) (λ n. ap (λ (j : ℕ). thirdWord j m cws k) (sym e))
+    several-word : (i : ℕ) → beyondChips m cws ≡ i → (k : ℕ) → thirdWord i m cws k ≡ ownWord m cws k
+    unfolding ownWord ownWordBy
+    several-word i e k = several (λ n. thirdWord i m cws k ≡ ownWordBy n m cws k) (λ n. ap (λ (j : ℕ). thirdWord j m cws k) (sym e))
 
     -- ws and cs are the flagged chips' words and check bytes after mending, x the chips beyond mending, and r the xor of the words sent
     module _ (ws cs : List ℕ) (x r : ℕ) (ew : AtPlaces (isFlagged m cws) (λ k. mendedWord (cellAt m k)) ws 9)
@@ -214,11 +187,11 @@ module _ (m cws : List ℕ) (f : ℕ) (ef : f ≡ mask (isFlagged m cws) 9) wher
           ec .at k l t ∙ mended-check (cellAt m k) (sym (flagged-beyond-is m cws k) ∙ b) ∙ ap checkOf (sym (ew .at k l t))
 
       -- none beyond mending
-      pub mended-found : ones x ≡ 0 → {o : Outcome} → o ≡ cond (eqb r 0) Answered Uncorrectable → Found m cws o ws cs
-      unfolding thirdOutcome thirdWord mustCancel beyondChips
+      pub mended-found : ones x ≡ 0 → {o : Finding} → o ≡ cond (eqb r 0) (Decided Answered) (Undecided r) → Found m cws o ws cs
+      unfolding thirdFinding thirdWord mustCancel beyondChips
       mended-found e eo =
           let none : beyondChips m cws ≡ 0 = sym beyond-ones ∙ e in (
-            eo ∙ ap (λ (y : ℕ). cond (eqb y 0) Answered Uncorrectable) er ∙ several-outcome 0 none,
+            eo ∙ ap (λ (y : ℕ). cond (eqb y 0) (Decided Answered) (Undecided y)) er ∙ several-finding 0 none,
             (
               record { at = λ k l t. sent k l t ∙ several-word 0 none k },
               ((λ a. record { at = λ k l t. checked k l t (count-none (isFlaggedBeyond m cws) 9 none k l) }), (n, q)),
@@ -227,15 +200,15 @@ module _ (m cws : List ℕ) (f : ℕ) (ef : f ≡ mask (isFlagged m cws) 9) wher
 
       -- one beyond mending
       pub rebuilt-found : ones x ≡ 1 → {k t : ℕ} → TakenOff x k t → {ws' cs' : List ℕ} → ws' ≡ set ws k (bitXor r (getD ws k 0))
-          → cs' ≡ set cs k (checkOf (bitXor r (getD ws k 0))) → Found m cws Answered ws' cs'
-      unfolding thirdOutcome thirdWord xorOthers isFlaggedBeyond
+          → cs' ≡ set cs k (checkOf (bitXor r (getD ws k 0))) → Found m cws (Decided Answered) ws' cs'
+      unfolding thirdFinding thirdWord xorOthers isFlaggedBeyond
       rebuilt-found e {k} h ew ev =
           let one : beyondChips m cws ≡ 1 = sym beyond-ones ∙ e in
           let p3 : ℕ → ℕ = passThree m cws in
           let v : ℕ = bitXor r (getD ws k 0) in
           let beyond : isFlaggedBeyond m cws k ≡ true = sym (member-is (isFlaggedBeyond m cws) ex (h .below) refl) ∙ h .member in
           let flagged : isFlagged m cws k ≡ true = and-first _ _ beyond in
-          let word : v ≡ wordOf m cws k =
+          let word : v ≡ ownWord m cws k =
           ap₂ bitXor (er ∙ xorAll-but p3 9 k (h .below)) (sent k (h .below) flagged)
           ∙ xor-cancel-r _ (p3 k)
           ∙ sym (ap (λ (b : Bool). cond b (xorOthers p3 k) (p3 k)) beyond)
@@ -243,9 +216,9 @@ module _ (m cws : List ℕ) (f : ℕ) (ef : f ≡ mask (isFlagged m cws) 9) wher
           let mends : (j : ℕ) → j < 9 → (j ≡ k → ⊥) → isFlaggedBeyond m cws j ≡ false =
           λ j l ne. not-that (isFlaggedBeyond m cws j) (λ t. ne (only-one (isFlaggedBeyond m cws) ex e h j l t)) in
           found-as m cws ew ev (
-            several-outcome 1 one,
+            several-finding 1 one,
             (
-              placed-set (isFlagged m cws) ws k v n (h .below) (wordOf m cws) word
+              placed-set (isFlagged m cws) ws k v n (h .below) (ownWord m cws) word
                   (λ j l t ne. sent j l t ∙ sym (ap (λ (b : Bool). cond b (xorOthers p3 j) (p3 j)) (mends j l ne)) ∙ several-word 1 one j),
               (
                 (λ a. checked-set (isFlagged m cws) ws k v n (h .below) cs q refl (λ j l t ne. checked j l t (mends j l ne))),
@@ -255,41 +228,19 @@ module _ (m cws : List ℕ) (f : ℕ) (ef : f ≡ mask (isFlagged m cws) 9) wher
           )
 
       -- two or more beyond mending
-      pub beyond-found : (ones x ≡ 0 → ⊥) → (ones x ≡ 1 → ⊥) → Found m cws Uncorrectable ws cs
-      unfolding thirdOutcome thirdWord
+      pub beyond-found : (ones x ≡ 0 → ⊥) → (ones x ≡ 1 → ⊥) → Found m cws (Decided Uncorrectable) ws cs
+      unfolding thirdFinding thirdWord mayAnswer
       beyond-found n0 n1 =
-          from-two (λ i. beyondChips m cws ≡ i → Found m cws Uncorrectable ws cs) (beyondChips m cws) (λ e. n0 (beyond-ones ∙ e))
+          from-two (λ i. beyondChips m cws ≡ i → Found m cws (Decided Uncorrectable) ws cs) (beyondChips m cws) (λ e. n0 (beyond-ones ∙ e))
           (λ e. n1 (beyond-ones ∙ e))
-          (λ i e. (several-outcome (suc (suc i)) e, (record { at = λ k l t. sent k l t ∙ several-word (suc (suc i)) e k }, ((λ a. absurd (refused a)), (n, q)))))
+          (λ i e. (several-finding (suc (suc i)) e, (record { at = λ k l t. sent k l t ∙ several-word (suc (suc i)) e k }, ((λ a. absurd (true≢false (sym a))), (n, q)))))
           refl
 
--- ---- step 6
+-- ---- all of it
 
-abbrev pub report : Outcome → ℕ → ℕ → ℕ → Report
-report o p f x = record { outcome = o; passes = p; flagged = f; collisions = x }
-
-module _ (m cws : List ℕ) where
-  reported : {o : Outcome} {p f x : ℕ} → o ≡ outcomeOf m cws → p ≡ passesOf m cws → f ≡ mask (isFlagged m cws) 9 → x ≡ mask (isCollision m cws) 9
-      → report o p f x ≡ reportOf m cws
-  unfolding reportOf
-  reported eo ep ef ex = λ i. record { outcome = eo i; passes = ep i; flagged = ef i; collisions = ex i }
-
-  -- any line: the report, by what steps 1 to 5 gave
-  module _ {f : ℕ} (ef : f ≡ mask (isFlagged m cws) 9) {o : Outcome} (eo : o ≡ outcomeOf m cws) where
-    pub full-report : {c n : ℕ} → c ≡ mask (isCandidate m cws) 9 → n ≡ passesOf m cws → report o n f (bitAnd c (bitXor f 511)) ≡ reportOf m cws
-    full-report ec en = reported eo en ef (ap₂ (λ (x y : ℕ). bitAnd x (bitXor y 511)) ec ef ∙ collisions-rest m cws)
-
-    -- only an answered line is written back
-    pub written-bytes : (ws : List ℕ) → {t : List ℕ} → AtPlaces (isFlagged m cws) (wordOf m cws) ws 9
-        → t ≡ ifAnswered o (joined (λ k. cond (inMask f k) (codeword (getD ws k 0)) (chipAt m k)) 9) m → t ≡ bytesAfter m cws
-    unfolding bytesAfter writtenBack withWords
-    written-bytes ws {t} q r =
-        r ∙ ap₂ (λ (u : Outcome) (bs : List ℕ). ifAnswered u bs m) eo
-        (joined-ext _ _ 9
-        (λ k l.
-        ap (λ (b : Bool). cond b (codeword (getD ws k 0)) (chipAt m k)) (member-is (isFlagged m cws) ef l refl) ∙ laid k l (isFlagged m cws k) refl))
-      where
-        laid : (k : ℕ) → k < 9 → (b : Bool) → isFlagged m cws k ≡ b
-            → cond b (codeword (getD ws k 0)) (chipAt m k) ≡ cond b (codeword (wordOf m cws k)) (chipAt m k)
-        laid k l true h = ap codeword (q .at k l h)
-        laid k l false h = refl
+pub examined-is : (m cws : List ℕ) {o : Finding} {c f n : ℕ} → o ≡ findingOf m cws → c ≡ mask (isCandidate m cws) 9 → f ≡ mask (isFlagged m cws) 9
+    → n ≡ ownPasses m cws → record { finding = o; passes = n; flagged = f; collisions = bitAnd c (bitXor f 511) } ≡ examinedOf m cws
+unfolding examinedOf
+examined-is m cws {o} {c} {f} {n} eo ec ef en =
+    let ex : bitAnd c (bitXor f 511) ≡ mask (isCollision m cws) 9 = ap₂ (λ (x y : ℕ). bitAnd x (bitXor y 511)) ec ef ∙ collisions-rest m cws in
+    λ i. record { finding = eo i; passes = en i; flagged = ef i; collisions = ex i }

@@ -16,11 +16,14 @@ use Rattle.cells.specs.CellLaws.{length-joined, chip-joined, length-chip, cell-
 use Rattle.cells.specs.ChipLaws.{xorAll-lt}
 use Rattle.passes.specs.Passes.{isFlagged, xorOthers, isUnsound, heldWord, mendedAt, beyondAt}
 use Rattle.passes.specs.PassLaws.{sound-mended, sound-mends}
+use Rattle.line.specs.Blame.{Evidence}
 use Rattle.line.specs.Visit.{outcomeOf, wordOf, ifAnswered, withWords, writtenBack, bytesAfter}
 use Rattle.line.specs.OutcomeLaws.{either-answered}
-use Rattle.line.specs.ClosedFormLaws.{thirdWordWith, wordWith, writtenWith, wordFor, bytesFor, outcome-is, word-is, bytes-is}
+use Rattle.line.specs.ClosedFormLaws.{thirdWordWith, ownWordWith, blamedFor, wordWith, writtenWith, findingFor, wordFor, bytesFor, outcome-is, word-is, bytes-is}
 use Rattle.line.specs.declared.Outcome.{Outcome}
 use Rattle.line.specs.declared.Outcome.the-variants.{Answered}
+use Rattle.line.specs.declared.Finding.{Finding}
+use Rattle.line.specs.declared.Finding.the-variants.{Decided, Undecided}
 
 module _ (m : List ℕ) (size : length m ≡ 81) (bytes : Bytes m) where
   held-lt : (k : ℕ) → k < 9 → heldWord m k < 2 ^ 64
@@ -48,11 +51,11 @@ module _ (m : List ℕ) (size : length m ≡ 81) (bytes : Bytes m) where
   third-lt (suc zero) k l = either-lt (mendedAt m) k l mended-lt (beyondAt m k)
   third-lt (suc (suc n)) k l = mended-lt k l
 
-  word-lt : (n k : ℕ) → k < 9 → wordWith n m k < 2 ^ 64
-  unfolding wordWith
-  word-lt zero k l = held-lt k l
-  word-lt (suc zero) k l = either-lt (heldWord m) k l held-lt (isUnsound m k)
-  word-lt (suc (suc n)) k l = third-lt (count (beyondAt m) 9) k l
+  own-word-lt : (n k : ℕ) → k < 9 → ownWordWith n m k < 2 ^ 64
+  unfolding ownWordWith
+  own-word-lt zero k l = held-lt k l
+  own-word-lt (suc zero) k l = either-lt (heldWord m) k l held-lt (isUnsound m k)
+  own-word-lt (suc (suc n)) k l = third-lt (count (beyondAt m) 9) k l
 
   third-kept : (n k : ℕ) → isUnsound m k ≡ false → thirdWordWith n m k ≡ heldWord m k
   unfolding thirdWordWith
@@ -60,43 +63,54 @@ module _ (m : List ℕ) (size : length m ≡ 81) (bytes : Bytes m) where
   third-kept (suc zero) k e = rw (sound-mends m k e) (sound-mended m k e)
   third-kept (suc (suc n)) k e = sound-mended m k e
 
-  -- a chip that holds a codeword keeps its word
-  word-kept : (n k : ℕ) → isUnsound m k ≡ false → wordWith n m k ≡ heldWord m k
-  unfolding wordWith
-  word-kept zero k e = refl
-  word-kept (suc zero) k e = rw e
-  word-kept (suc (suc n)) k e = third-kept (count (beyondAt m) 9) k e
+  own-word-kept : (n k : ℕ) → isUnsound m k ≡ false → ownWordWith n m k ≡ heldWord m k
+  unfolding ownWordWith
+  own-word-kept zero k e = refl
+  own-word-kept (suc zero) k e = rw e
+  own-word-kept (suc (suc n)) k e = third-kept (count (beyondAt m) 9) k e
 
-  -- an answered line holds the words of steps 3 to 5
-  pub word-after : (cws : List ℕ) → outcomeOf m cws ≡ Answered → (k : ℕ) → k < 9 → wordAt (bytesAfter m cws) k ≡ wordOf m cws k
-  unfolding bytesFor writtenWith wordFor
-  word-after cws a k l =
-      ap (λ (n : List ℕ). wordAt n k) (bytes-is m cws ∙ ap (λ (o : Outcome). ifAnswered o (writtenWith (wordFor m) m) m) (sym (outcome-is m cws) ∙ a))
-      ∙ word-chip _ k
-      ∙ ap (λ (bs : List ℕ). numberOf (take 8 bs)) (chip-joined after nine k l)
-      ∙ pick (isUnsound m k) refl
-      ∙ sym (word-is m cws k l)
-    where
-      after : ℕ → List ℕ
-      after j = cond (isUnsound m j) (codeword (wordFor m j)) (chipAt m j)
+  module _ (e : Evidence) where
+    word-lt : (f : Finding) (k : ℕ) → k < 9 → wordWith f e m k < 2 ^ 64
+    unfolding wordWith
+    word-lt (Decided o) k l = own-word-lt (count (isUnsound m) 9) k l
+    word-lt (Undecided x) k l = either-lt (mendedAt m) k l mended-lt (blamedFor e m k)
 
-      nine : (j : ℕ) → j < 9 → length (after j) ≡ 9
-      nine j h = either (isUnsound m j)
-        where
-          either : (b : Bool) → length (cond b (codeword (wordFor m j)) (chipAt m j)) ≡ 9
-          either true = length-codeword (wordFor m j)
-          either false = length-chip m j size h
+    -- a chip that holds a codeword keeps its word
+    word-kept : (f : Finding) (k : ℕ) → isUnsound m k ≡ false → wordWith f e m k ≡ heldWord m k
+    unfolding wordWith blamedFor
+    word-kept (Decided o) k s = own-word-kept (count (isUnsound m) 9) k s
+    word-kept (Undecided x) k s = rw s (sound-mended m k s)
 
-      pick : (b : Bool) → isUnsound m k ≡ b → numberOf (take 8 (cond b (codeword (wordFor m k)) (chipAt m k))) ≡ wordFor m k
-      pick true e = ap numberOf (eight-codeword (wordFor m k)) ∙ number-bytesOf 8 (wordFor m k) (word-lt (count (isUnsound m) 9) k l)
-      pick false e = sym (word-chip m k) ∙ sym (held-word m k bytes) ∙ sym (word-kept (count (isUnsound m) 9) k e)
+    -- an answered line holds the words of steps 3 to 5
+    pub word-after : (cws : List ℕ) → outcomeOf e m cws ≡ Answered → (k : ℕ) → k < 9 → wordAt (bytesAfter e m cws) k ≡ wordOf e m cws k
+    unfolding bytesFor writtenWith wordFor
+    word-after cws a k l =
+        ap (λ (n : List ℕ). wordAt n k) (bytes-is m cws e ∙ ap (λ (o : Outcome). ifAnswered o (writtenWith (wordFor e m) m) m) (sym (outcome-is m cws e) ∙ a))
+        ∙ word-chip _ k
+        ∙ ap (λ (bs : List ℕ). numberOf (take 8 bs)) (chip-joined after nine k l)
+        ∙ pick (isUnsound m k) refl
+        ∙ sym (word-is m cws e k l)
+      where
+        after : ℕ → List ℕ
+        after j = cond (isUnsound m j) (codeword (wordFor e m j)) (chipAt m j)
+
+        nine : (j : ℕ) → j < 9 → length (after j) ≡ 9
+        nine j h = either (isUnsound m j)
+          where
+            either : (b : Bool) → length (cond b (codeword (wordFor e m j)) (chipAt m j)) ≡ 9
+            either true = length-codeword (wordFor e m j)
+            either false = length-chip m j size h
+
+        pick : (b : Bool) → isUnsound m k ≡ b → numberOf (take 8 (cond b (codeword (wordFor e m k)) (chipAt m k))) ≡ wordFor e m k
+        pick true s = ap numberOf (eight-codeword (wordFor e m k)) ∙ number-bytesOf 8 (wordFor e m k) (word-lt (findingFor m) k l)
+        pick false s = sym (word-chip m k) ∙ sym (held-word m k bytes) ∙ sym (word-kept (findingFor m) k s)
 
 -- a visit leaves as many bytes as it found
-pub length-after : (m cws : List ℕ) → length m ≡ 81 → length (bytesAfter m cws) ≡ 81
+pub length-after : (e : Evidence) (m cws : List ℕ) → length m ≡ 81 → length (bytesAfter e m cws) ≡ 81
 unfolding bytesAfter writtenBack withWords
-length-after m cws size =
-    either-answered (λ (bs : List ℕ). length bs ≡ 81) (outcomeOf m cws) (length-joined _ 9 9 (λ k l. nine k l (isFlagged m cws k))) size
+length-after e m cws size =
+    either-answered (λ (bs : List ℕ). length bs ≡ 81) (outcomeOf e m cws) (length-joined _ 9 9 (λ k l. nine k l (isFlagged m cws k))) size
   where
-    nine : (k : ℕ) → k < 9 → (b : Bool) → length (cond b (codeword (wordOf m cws k)) (chipAt m k)) ≡ 9
-    nine k l true = length-codeword (wordOf m cws k)
+    nine : (k : ℕ) → k < 9 → (b : Bool) → length (cond b (codeword (wordOf e m cws k)) (chipAt m k)) ≡ 9
+    nine k l true = length-codeword (wordOf e m cws k)
     nine k l false = length-chip m k size l

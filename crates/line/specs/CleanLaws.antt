@@ -13,9 +13,12 @@ use Rattle.cells.specs.CellLaws.{chips-line}
 use Rattle.passes.specs.Passes.{isCandidate, sentComplement, isFlagged, isCollision, flaggedChips}
 use Rattle.passes.specs.Scan.{isClean}
 use Rattle.passes.specs.ScanLaws.{clean-none, clean-parity}
-use Rattle.line.specs.Visit.{mustCancel, outcomeBy, outcomeOf, ifAnswered, withWords, writtenBack, bytesAfter, passesOf, reportOf}
+use Rattle.line.specs.Blame.{Evidence}
+use Rattle.line.specs.Visit.{mustCancel, findingBy, findingOf, outcomeBy, outcomeOf, ifAnswered, withWords, writtenBack, bytesAfter, ownPasses, rowPasses, reportOf}
 use Rattle.line.specs.declared.Outcome.{Outcome}
 use Rattle.line.specs.declared.Outcome.the-variants.{Answered, Unlocated}
+use Rattle.line.specs.declared.Finding.{Finding}
+use Rattle.line.specs.declared.Finding.the-variants.{Decided}
 
 module _ (m cws : List ℕ) (clean : isClean m cws ≡ true) where
   candidates : count (isCandidate m cws) 9 ≡ 0
@@ -36,23 +39,29 @@ module _ (m cws : List ℕ) (clean : isClean m cws ≡ true) where
   unfolding flaggedChips
   none-flagged = mask-count (isFlagged m cws) 9 no-flag
 
-  answered : outcomeOf m cws ≡ Answered
-  unfolding outcomeOf outcomeBy mustCancel
-  answered =
-      ap (λ (n : ℕ). outcomeBy n m cws) none-flagged
-      ∙ ap (λ (x : ℕ). cond (eqb x 0) Answered Unlocated) (clean-parity m cws clean)
+  found : findingOf m cws ≡ Decided Answered
+  unfolding findingOf findingBy mustCancel
+  found =
+      ap (λ (n : ℕ). findingBy n m cws) none-flagged
+      ∙ ap (λ (x : ℕ). cond (eqb x 0) (Decided Answered) (Decided Unlocated)) (clean-parity m cws clean)
 
-  one-pass : passesOf m cws ≡ 1
-  unfolding passesOf
+  one-pass : ownPasses m cws ≡ 1
+  unfolding ownPasses
   one-pass = ap₂ (λ (a b : ℕ). 1 + bit (ltb 0 a) + bit (ltb 1 b)) candidates none-flagged
 
-  pub clean-report : reportOf m cws ≡ record { outcome = Answered; passes = 1; flagged = 0; collisions = 0 }
-  unfolding reportOf
-  clean-report = λ i. record { outcome = answered i; passes = one-pass i; flagged = no-flag i; collisions = no-collision i }
+  module _ (e : Evidence) where
+    answered : outcomeOf e m cws ≡ Answered
+    unfolding outcomeOf outcomeBy
+    answered = ap (λ (f : Finding). outcomeBy f e m cws) found
 
-  pub clean-bytes : length m ≡ 81 → bytesAfter m cws ≡ m
-  unfolding bytesAfter writtenBack withWords isFlagged
-  clean-bytes size =
-      ap (λ (o : Outcome). ifAnswered o (writtenBack m cws) m) answered
-      ∙ sym (joined-ext (chipAt m) _ 9 (λ k l. rw (no-candidate k (sentComplement m cws k) l)))
-      ∙ chips-line m size
+    pub clean-report : reportOf e m cws ≡ record { outcome = Answered; passes = 1; flagged = 0; collisions = 0 }
+    unfolding reportOf rowPasses
+    clean-report =
+        λ i. record { outcome = answered i; passes = one-pass i + rowPasses (found i) e; flagged = no-flag i; collisions = no-collision i }
+
+    pub clean-bytes : length m ≡ 81 → bytesAfter e m cws ≡ m
+    unfolding bytesAfter writtenBack withWords isFlagged
+    clean-bytes size =
+        ap (λ (o : Outcome). ifAnswered o (writtenBack e m cws) m) answered
+        ∙ sym (joined-ext (chipAt m) _ 9 (λ k l. rw (no-candidate k (sentComplement m cws k) l)))
+        ∙ chips-line m size

@@ -39,8 +39,8 @@ pub data Answerable (p : ℕ → ℕ) : Type 0 where
   allUndone : ((k : ℕ) → k < chips → mendedWord (p k) ≡ 0) → Answerable p
   someBeyond : (k : ℕ) → k < chips → isBeyond (statusOf (p k)) ≡ true → Answerable p
 
--- it is refused with 21 where two or more are damaged, M of a pattern is not the zero word, and none is beyond mending
-pub record Refusable (p : ℕ → ℕ) : Type 0 where
+-- its own bytes leave it undecided where two or more are damaged, M of a pattern is not the zero word, and none is beyond mending
+pub record LeftUndecided (p : ℕ → ℕ) : Type 0 where
   pub several : 1 < damagedPatterns p
   pub chip : ℕ
   pub below : chip < chips

@@ -1,8 +1,11 @@
+pub mod Blame
 pub mod Visit
 pub mod Found
 pub mod Damage
 pub mod FormerVisit
 pub mod OutcomeLaws
+pub mod FindingLaws
+pub mod BlameLaws
 pub mod ClosedFormLaws
 pub mod CatchWordLaws
 pub mod AnsweredLaws

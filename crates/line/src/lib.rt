@@ -1,5 +1,6 @@
-// A visit to a line in its 81 lent bytes (document 01, "A visit to a line"; step 5 as document 02's Req 02 has it). What a visit does to the
-// record is in crate `record`.
+// A visit to a line in its 81 lent bytes (document 01, "A visit to a line"; step 5 as document 02's Req 02 and Req 04 have it): what its own
+// bytes tell, and step 6. Between the two stands the diagnosis of the line's row, in crate `rows`; what a visit does to the record is in crate
+// `record`.
 ghost use mathlib.Core.Path.{_≡_};
 ghost use mathlib.Core.Bool.{cond};
 ghost use Prim.Native.Nat.{_^_, _<_};
@@ -11,8 +12,9 @@ ghost use Rattle.cells.specs.Chips.{joined, xorAll, mask, inMask, AtPlaces};
 ghost use Rattle.cells.specs.Cells.{chips, lineBytes, chipAt, codeword};
 ghost use Rattle.passes.specs.Passes.{passOne, isFlagged};
 ghost use Rattle.passes.specs.Syndromes.{syndromesOf};
-ghost use Rattle.line.specs.Visit.{outcomeOf, wordOf, ifAnswered, bytesAfter, reportOf, refusalOf};
-ghost use Rattle.line.specs.Found.{ChecksIfAnswered};
+ghost use Rattle.line.specs.Visit.{findingOf, ownWord, ifAnswered, examinedOf, refusalOf};
+ghost use Rattle.line.specs.Found.{ChecksIfAnswered, ChecksUnlessRefused};
+ghost use Rattle.line.specs.declared.Finding.the-variants.{Decided};
 ghost use Rattle.line.specs.declared.Outcome.the-variants.{Answered};
 use cells::CHIPS;
 use cells::masks;
@@ -26,15 +28,30 @@ use passes::third;
 const ALL_CHIPS: u32 = 0x1ff;
 
 // How a visit ends. Answered: with the line. Unlocated, refusal 20 of document 01: none flagged, and the words don't xor to zero.
-// Uncorrectable, refusal 21: two or more flagged, and two or more of them are beyond mending, or none is and the mended words don't xor to
-// zero.
+// Uncorrectable, refusal 21: two or more flagged, and two or more of them are beyond mending, or none is, the mended words don't xor to zero
+// and no chip is blamed.
 pub enum Outcome {
     Answered,
     Unlocated,
     Uncorrectable,
 }
 
-// What a visit reports: its outcome, the passes made, and the flagged and collision masks, bit K for chip K.
+// What a line's own bytes tell. Decided: how the visit ends. Undecided: two or more flagged, none of them beyond mending, and the mended words
+// don't xor to zero, but to the number held; the other lines of the row decide.
+pub enum Finding {
+    Decided(Outcome),
+    Undecided(u64),
+}
+
+// What steps 1 to 5 give by the line's own bytes: also the passes made, and the flagged and collision masks, bit K for chip K.
+pub struct Examined {
+    pub finding: Finding,
+    pub passes: u32,
+    pub flagged: u32,
+    pub collisions: u32,
+}
+
+// What a visit reports: its outcome, the passes made, and the two masks.
 pub struct Report {
     pub outcome: Outcome,
     pub passes: u32,
@@ -42,11 +59,19 @@ pub struct Report {
     pub collisions: u32,
 }
 
-// A visit to a line. The chips' registers equal the catch-words. What the report does to the record is left to the caller.
-pub fn visit(line: &mut [u8], catch_words: &[u64; CHIPS]) -> Report
-    requires { ⌜ (length (now line) ≡ lineBytes) × (length (now «catch_words») ≡ chips) ⌝ }
-    ensures report { λ r. ⌜ r ≡ reportOf (now (line .entry)) (now («catch_words» .entry)) ⌝ }
-    ensures bytes { λ _. ⌜ now (line .exit) ≡ bytesAfter (now (line .entry)) (now («catch_words» .entry)) ⌝ }
+// Steps 1 to 5 by the line's own bytes. The chips' registers equal the catch-words. The words of the flagged chips are put at their places, and
+// so are their check bytes unless the line is refused; what stands at the others' is not looked at.
+pub fn examine(
+    line: &[u8],
+    catch_words: &[u64; CHIPS],
+    words: &mut [u64; CHIPS],
+    checks: &mut [u8; CHIPS],
+) -> Examined
+    requires { ⌜ (length (now line) ≡ lineBytes) × (length (now «catch_words») ≡ chips) × (length (now words) ≡ chips) × (length (now checks) ≡ chips) ⌝ }
+    ensures examined { λ r. ⌜ r ≡ examinedOf (now (line .entry)) (now («catch_words» .entry)) ⌝ }
+    ensures words { λ _. ⌜ AtPlaces (isFlagged (now (line .entry)) (now («catch_words» .entry))) (ownWord (now (line .entry)) (now («catch_words» .entry))) (now (words .exit)) chips ⌝ }
+    ensures checks { λ r. ⌜ ChecksUnlessRefused (r .finding) (isFlagged (now (line .entry)) (now («catch_words» .entry))) (now (words .exit)) (now (checks .exit)) ⌝ }
+    ensures sizes { λ _. ⌜ (length (now (words .exit)) ≡ chips) × (length (now (checks .exit)) ≡ chips) ⌝ }
 {
     // The syndromes are made once, for all passes.
     let syndromes = syndromes::of_line(line);
@@ -59,21 +84,10 @@ pub fn visit(line: &mut [u8], catch_words: &[u64; CHIPS]) -> Report
     let collisions = candidates & (flagged ^ ALL_CHIPS);
     // Steps 3 to 5.
     let passes = passes_made(candidates, flagged);
-    let mut words = [0u64; CHIPS];
-    let mut checks = [0u8; CHIPS];
-    let outcome = resolve(
-        line,
-        catch_words,
-        syndromes,
-        pass_one.parity,
-        flagged,
-        &mut words,
-        &mut checks,
-    );
-    // Step 6.
-    write_answered(line, outcome, flagged, &words, &checks);
-    Report {
-        outcome,
+    let parity = pass_one.parity;
+    let finding = resolve(line, catch_words, syndromes, parity, flagged, words, checks);
+    Examined {
+        finding,
         passes,
         flagged,
         collisions,
@@ -91,8 +105,7 @@ pub fn refusal(outcome: Outcome) -> u32
     }
 }
 
-// Steps 3 to 5, by how many chips are flagged. The words of the flagged chips, and their check bytes if the line is answered, are put at the
-// chips' places; what stands at the others' is not looked at.
+// Steps 3 to 5, by how many chips are flagged.
 fn resolve(
     line: &[u8],
     catch_words: &[u64; CHIPS],
@@ -101,30 +114,30 @@ fn resolve(
     flagged: u32,
     words: &mut [u64; CHIPS],
     checks: &mut [u8; CHIPS],
-) -> Outcome
+) -> Finding
     requires sizes { ⌜ (length (now line) ≡ lineBytes) × (length (now «catch_words») ≡ chips) × (length (now words) ≡ chips) × (length (now checks) ≡ chips) ⌝ }
     requires syndromes { ⌜ syndromes ≡ syndromesOf (now line) ⌝ }
     requires parity { ⌜ parity ≡ xorAll (passOne (now line) (now «catch_words»)) chips ⌝ }
     requires flagged { ⌜ flagged ≡ mask (isFlagged (now line) (now «catch_words»)) chips ⌝ }
-    ensures outcome { λ r. ⌜ r ≡ outcomeOf (now (line .entry)) (now («catch_words» .entry)) ⌝ }
-    ensures words { λ _. ⌜ AtPlaces (isFlagged (now (line .entry)) (now («catch_words» .entry))) (wordOf (now (line .entry)) (now («catch_words» .entry))) (now (words .exit)) chips ⌝ }
-    ensures checks { λ r. ⌜ ChecksIfAnswered r (isFlagged (now (line .entry)) (now («catch_words» .entry))) (now (words .exit)) (now (checks .exit)) ⌝ }
+    ensures finding { λ r. ⌜ r ≡ findingOf (now (line .entry)) (now («catch_words» .entry)) ⌝ }
+    ensures words { λ _. ⌜ AtPlaces (isFlagged (now (line .entry)) (now («catch_words» .entry))) (ownWord (now (line .entry)) (now («catch_words» .entry))) (now (words .exit)) chips ⌝ }
+    ensures checks { λ r. ⌜ ChecksUnlessRefused r (isFlagged (now (line .entry)) (now («catch_words» .entry))) (now (words .exit)) (now (checks .exit)) ⌝ }
     ensures sizes { λ _. ⌜ (length (now (words .exit)) ≡ chips) × (length (now (checks .exit)) ≡ chips) ⌝ }
 {
     let flags = u32::count_ones(flagged);
     if flags == 0 {
-        return must_cancel(parity, Outcome::Unlocated);
+        return must_cancel(parity, Finding::Decided(Outcome::Unlocated));
     }
     if flags == 1 {
         // The one flagged chip sent its catch-word, which is taken off the xor of all nine.
         let k = masks::lowest(flagged);
         put(words, checks, k, parity ^ catch_words[k]);
-        return Outcome::Answered;
+        return Finding::Decided(Outcome::Answered);
     }
     mend_flagged(line, catch_words, syndromes, parity, flagged, words, checks)
 }
 
-// Step 5, by how many of the flagged chips are beyond mending (document 02, Req 02).
+// Step 5, by how many of the flagged chips are beyond mending (document 02, Req 02 and Req 04).
 fn mend_flagged(
     line: &[u8],
     catch_words: &[u64; CHIPS],
@@ -133,35 +146,36 @@ fn mend_flagged(
     flagged: u32,
     words: &mut [u64; CHIPS],
     checks: &mut [u8; CHIPS],
-) -> Outcome
+) -> Finding
     requires sizes { ⌜ (length (now line) ≡ lineBytes) × (length (now «catch_words») ≡ chips) × (length (now words) ≡ chips) × (length (now checks) ≡ chips) ⌝ }
     requires syndromes { ⌜ syndromes ≡ syndromesOf (now line) ⌝ }
     requires parity { ⌜ parity ≡ xorAll (passOne (now line) (now «catch_words»)) chips ⌝ }
     requires flagged { ⌜ flagged ≡ mask (isFlagged (now line) (now «catch_words»)) chips ⌝ }
     requires several { ⌜ 1 < ones flagged ⌝ }
-    ensures outcome { λ r. ⌜ r ≡ outcomeOf (now (line .entry)) (now («catch_words» .entry)) ⌝ }
-    ensures words { λ _. ⌜ AtPlaces (isFlagged (now (line .entry)) (now («catch_words» .entry))) (wordOf (now (line .entry)) (now («catch_words» .entry))) (now (words .exit)) chips ⌝ }
-    ensures checks { λ r. ⌜ ChecksIfAnswered r (isFlagged (now (line .entry)) (now («catch_words» .entry))) (now (words .exit)) (now (checks .exit)) ⌝ }
+    ensures finding { λ r. ⌜ r ≡ findingOf (now (line .entry)) (now («catch_words» .entry)) ⌝ }
+    ensures words { λ _. ⌜ AtPlaces (isFlagged (now (line .entry)) (now («catch_words» .entry))) (ownWord (now (line .entry)) (now («catch_words» .entry))) (now (words .exit)) chips ⌝ }
+    ensures checks { λ r. ⌜ ChecksUnlessRefused r (isFlagged (now (line .entry)) (now («catch_words» .entry))) (now (words .exit)) (now (checks .exit)) ⌝ }
     ensures sizes { λ _. ⌜ (length (now (words .exit)) ≡ chips) × (length (now (checks .exit)) ≡ chips) ⌝ }
 {
     let pass_three = third::pass(line, catch_words, syndromes, parity, flagged, words, checks);
     let beyond = pass_three.beyond;
     let count = u32::count_ones(beyond);
     if count == 0 {
-        return must_cancel(pass_three.parity, Outcome::Uncorrectable);
+        let xor = pass_three.parity;
+        return must_cancel(xor, Finding::Undecided(xor));
     }
     if count == 1 {
         // What the one chip beyond mending sent is taken off the xor of all nine.
         let k = masks::lowest(beyond);
         let own = words[k];
         put(words, checks, k, pass_three.parity ^ own);
-        return Outcome::Answered;
+        return Finding::Decided(Outcome::Answered);
     }
-    Outcome::Uncorrectable
+    Finding::Decided(Outcome::Uncorrectable)
 }
 
 // Puts a word and its check byte at chip K's place.
-fn put(words: &mut [u64; CHIPS], checks: &mut [u8; CHIPS], k: usize, word: u64)
+pub fn put(words: &mut [u64; CHIPS], checks: &mut [u8; CHIPS], k: usize, word: u64)
     requires { ⌜ (length (now words) ≡ chips) × (length (now checks) ≡ chips) × (k < chips) ⌝ }
     ensures words { λ _. ⌜ now (words .exit) ≡ set (now (words .entry)) k word ⌝ }
     ensures checks { λ _. ⌜ now (checks .exit) ≡ set (now (checks .entry)) k (checkOf word) ⌝ }
@@ -180,19 +194,19 @@ fn passes_made(candidates: u32, flagged: u32) -> u32
     if 1 < u32::count_ones(flagged) { 3 } else { 2 }
 }
 
-// Words must xor to zero, else the visit is refused.
-fn must_cancel(parity: u64, refused: Outcome) -> Outcome
-    ensures { λ r. ⌜ r ≡ cond (eqb parity 0) Answered refused ⌝ }
+// Words must xor to zero: then the line is answered, else the given finding stands.
+fn must_cancel(parity: u64, otherwise: Finding) -> Finding
+    ensures { λ r. ⌜ r ≡ cond (eqb parity 0) (Decided Answered) otherwise ⌝ }
 {
     if parity == 0 {
-        Outcome::Answered
+        Finding::Decided(Outcome::Answered)
     } else {
-        refused
+        otherwise
     }
 }
 
-// Only an answered line is written back.
-fn write_answered(
+// Step 6: only an answered line is written back.
+pub fn write_answered(
     line: &mut [u8],
     outcome: Outcome,
     flagged: u32,

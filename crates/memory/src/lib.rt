@@ -1,14 +1,20 @@
 // One line of the lent memory (document 01, "The rank"): its 81 bytes are lent on to crates `cells`, `passes` and `line`.
 ghost use mathlib.Core.Path.{_≡_};
-ghost use Prim.Native.Nat.{_+_, _*_, _≤_, _<_};
-ghost use lib.ListN.{length, replicate};
-ghost use Rattle.cells.specs.Cells.{chipBytes, chips, dataBytes, lineBytes, lineWord, stored, lineOf};
+ghost use mathlib.Core.Bool.{cond};
+ghost use Prim.Native.Nat.{_+_, _*_, _^_, _≤_, _<_};
+ghost use lib.ListN.{length, getD, replicate};
+ghost use Rattle.cells.specs.Cells.{chipBytes, chips, dataBytes, lineBytes, chipAt, codeword, lineWord, stored, lineOf};
+ghost use Rattle.cells.specs.Chips.{joined, mask, inMask, AtPlaces};
+ghost use Rattle.passes.specs.Passes.{isFlagged};
 ghost use Rattle.passes.specs.Scan.{isClean};
-ghost use Rattle.line.specs.Visit.{reportOf, bytesAfter};
+ghost use Rattle.line.specs.Visit.{ownWord, ifAnswered, examinedOf};
+ghost use Rattle.line.specs.Found.{ChecksIfAnswered, ChecksUnlessRefused};
 ghost use Rattle.memory.specs.Lines.{lineAt, withLine, faulted};
 use cells::CHIPS;
 use cells::LINE_BYTES;
-use line::Report;
+use line::Examined;
+use line::Outcome;
+use passes::first_two;
 use passes::scan;
 
 // Clears the memory.
@@ -40,16 +46,54 @@ pub fn is_clean(memory: &[u8], line: u32, catch_words: &[u64; CHIPS]) -> bool
     scan::is_clean(&memory[at..end], catch_words)
 }
 
-// Visits a line. What the report does to the record is left to the caller.
-pub fn visit(memory: &mut [u8], line: u32, catch_words: &[u64; CHIPS]) -> Report
+// Passes one and two of a line: the mask of the flagged chips.
+pub fn flagged(memory: &[u8], line: u32, catch_words: &[u64; CHIPS]) -> u32
     requires { ⌜ (lineBytes * line + lineBytes ≤ length (now memory)) × (length (now «catch_words») ≡ chips) ⌝ }
-    ensures report { λ r. ⌜ r ≡ reportOf (lineAt (now (memory .entry)) line) (now («catch_words» .entry)) ⌝ }
-    ensures memory { λ _. ⌜ now (memory .exit)
-        ≡ withLine (now (memory .entry)) line (bytesAfter (lineAt (now (memory .entry)) line) (now («catch_words» .entry))) ⌝ }
+    ensures { λ r. ⌜ r ≡ mask (isFlagged (lineAt (now (memory .entry)) line) (now («catch_words» .entry))) chips ⌝ }
 {
     let at = LINE_BYTES * (line as usize);
     let end = at + LINE_BYTES;
-    line::visit(&mut memory[at..end], catch_words)
+    first_two::flagged(&memory[at..end], catch_words)
+}
+
+// Steps 1 to 5 of a visit, by the line's own bytes.
+pub fn examine(
+    memory: &[u8],
+    line: u32,
+    catch_words: &[u64; CHIPS],
+    words: &mut [u64; CHIPS],
+    checks: &mut [u8; CHIPS],
+) -> Examined
+    requires { ⌜ (lineBytes * line + lineBytes ≤ length (now memory)) × (length (now «catch_words») ≡ chips) × (length (now words) ≡ chips) × (length (now checks) ≡ chips) ⌝ }
+    ensures examined { λ r. ⌜ r ≡ examinedOf (lineAt (now (memory .entry)) line) (now («catch_words» .entry)) ⌝ }
+    ensures words { λ _. ⌜ AtPlaces (isFlagged (lineAt (now (memory .entry)) line) (now («catch_words» .entry))) (ownWord (lineAt (now (memory .entry)) line) (now («catch_words» .entry))) (now (words .exit)) chips ⌝ }
+    ensures checks { λ r. ⌜ ChecksUnlessRefused (r .finding) (isFlagged (lineAt (now (memory .entry)) line) (now («catch_words» .entry))) (now (words .exit)) (now (checks .exit)) ⌝ }
+    ensures sizes { λ _. ⌜ (length (now (words .exit)) ≡ chips) × (length (now (checks .exit)) ≡ chips) ⌝ }
+{
+    let at = LINE_BYTES * (line as usize);
+    let end = at + LINE_BYTES;
+    line::examine(&memory[at..end], catch_words, words, checks)
+}
+
+// Step 6 of a visit: only an answered line is written back.
+pub fn write_answered(
+    memory: &mut [u8],
+    line: u32,
+    outcome: Outcome,
+    flagged: u32,
+    words: &[u64; CHIPS],
+    checks: &[u8; CHIPS],
+)
+    requires sizes { ⌜ (lineBytes * line + lineBytes ≤ length (now memory)) × (length (now words) ≡ chips) × (length (now checks) ≡ chips) ⌝ }
+    requires flagged { ⌜ flagged < 2 ^ chips ⌝ }
+    requires checks { ⌜ ChecksIfAnswered outcome (inMask flagged) (now words) (now checks) ⌝ }
+    ensures { λ _. ⌜ now (memory .exit) ≡ withLine (now (memory .entry)) line (ifAnswered outcome
+        (joined (λ k. cond (inMask flagged k) (codeword (getD (now (words .entry)) k 0)) (chipAt (lineAt (now (memory .entry)) line) k)) chips)
+        (lineAt (now (memory .entry)) line)) ⌝ }
+{
+    let at = LINE_BYTES * (line as usize);
+    let end = at + LINE_BYTES;
+    line::write_answered(&mut memory[at..end], outcome, flagged, words, checks);
 }
 
 // Puts a line's 64 bytes in a buffer.

@@ -1,25 +1,28 @@
 -- Laws of a line's nine syndromes. m is the line's bytes.
 -- Assumes nothing.
 use mathlib.Core.Path.{_≡_, refl, sym, ap, ap₂, _∙_}
-use mathlib.Core.Bool.{Bool, true, false, not}
+use mathlib.Core.Bool.{Bool, true, false, not, _&&_, cond}
 use mathlib.Core.List.{List}
-use Prim.Native.Nat.{ℕ, _+_, _*_, _^_, _<_}
+use Prim.Native.Nat.{ℕ, _+_, _*_, _/_, _%_, _^_, _<_}
+use native.Mathlib.Nat.{zero-div}
 use native.Mathlib.Omega.{arith}
 use lib.Bits.{bitXor, xor-block}
 use lib.Dec.{eqb}
 use borrow.Author.Tests.{eqb-true, eqb-false}
 use Rattle.code.specs.Code.{isCodeword, checkOf}
+use Rattle.code.specs.TestLaws.{and-first, and-second}
 use Rattle.code.specs.CodeLaws.{syndrome-of, syndrome-lt, check-lt}
 use Rattle.lanes.specs.Lanes.{lanes}
 use Rattle.cells.specs.Chips.{mask}
-use Rattle.cells.specs.ChipLaws.{mask-ext}
+use Rattle.cells.specs.ChipLaws.{mask-ext, mask-zero}
 use Rattle.cells.specs.Cells.{wordAt, checkAt, cellAt}
-use Rattle.cells.specs.Checks.{everyOther}
+use Rattle.cells.specs.Checks.{everyOther, inChecks}
 use Rattle.cells.specs.CheckLaws.{checks-at}
 use Rattle.words.specs.Bytes.{Bytes}
 use Rattle.passes.specs.Passes.{isUnsound}
 use Rattle.passes.specs.ScanLaws.{check-fits}
-use Rattle.passes.specs.Syndromes.{chipSyndrome, syndromesOf, syndromeIn}
+use Rattle.passes.specs.declared.syndromes.Syndromes.{Syndromes}
+use Rattle.passes.specs.Syndromes.{chipSyndrome, syndromesOf, syndromeIn, areZero}
 
 -- ---- how they are made
 
@@ -64,3 +67,28 @@ syndrome-in-is m k h = pick (eqb k 8) refl
 pub unsound-mask : (m : List ℕ) → mask (λ k. not (eqb (syndromeIn (syndromesOf m) k) 0)) 9 ≡ mask (isUnsound m) 9
 unfolding isUnsound isCodeword
 unsound-mask m = mask-ext _ _ 9 (λ k l. ap (λ (s : ℕ). not (eqb s 0)) (syndrome-in-is m k l))
+
+-- no chip's syndrome is another than zero where all nine are
+pub zero-mask : (s : Syndromes) → areZero s ≡ true → mask (λ k. not (eqb (syndromeIn s k) 0)) 9 ≡ 0
+unfolding areZero syndromeIn inChecks
+zero-mask s z = mask-zero _ 9 (λ k l. ap (λ (n : ℕ). not (eqb n 0)) (each k))
+  where
+    rest : (eqb (s .eight .odd) 0 && eqb (s .last) 0) ≡ true
+    rest = and-second (eqb (s .eight .even) 0) (eqb (s .eight .odd) 0 && eqb (s .last) 0) z
+
+    even : s .eight .even ≡ 0
+    even = eqb-true (s .eight .even) 0 (and-first (eqb (s .eight .even) 0) (eqb (s .eight .odd) 0 && eqb (s .last) 0) z)
+
+    odd : s .eight .odd ≡ 0
+    odd = eqb-true (s .eight .odd) 0 (and-first (eqb (s .eight .odd) 0) (eqb (s .last) 0) rest)
+
+    last : s .last ≡ 0
+    last = eqb-true (s .last) 0 (and-second (eqb (s .eight .odd) 0) (eqb (s .last) 0) rest)
+
+    none : (i : ℕ) (a b : Bool) → cond a 0 (cond b 0 0 / i % 256) ≡ 0
+    none i true b = refl
+    none i false true = ap (λ (n : ℕ). n % 256) (zero-div i)
+    none i false false = ap (λ (n : ℕ). n % 256) (zero-div i)
+
+    each : (k : ℕ) → syndromeIn s k ≡ 0
+    each k = rw (even, odd, last) (none (2 ^ (16 * (k / 2))) (eqb k 8) (eqb (k % 2) 0))

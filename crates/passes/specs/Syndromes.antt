@@ -1,6 +1,6 @@
 -- The syndromes of a line's nine chips, made once for all passes. Not of document 01.
 -- Definitions alone; what holds of them is in `SyndromeLaws`.
-use mathlib.Core.Bool.{cond}
+use mathlib.Core.Bool.{Bool, _&&_, cond}
 use mathlib.Core.List.{List}
 use Prim.Native.Nat.{ℕ}
 use lib.Dec.{eqb}
@@ -20,3 +20,7 @@ syndromesOf m = record { eight = record { even = everyOther (chipSyndrome m) 0; 
 -- that of chip k
 unfoldable pub syndromeIn : Syndromes → ℕ → ℕ
 syndromeIn s k = cond (eqb k 8) (s .last) (inChecks (s .eight .even) (s .eight .odd) k)
+
+-- all nine are zero
+unfoldable pub areZero : Syndromes → Bool
+areZero s = eqb (s .eight .even) 0 && (eqb (s .eight .odd) 0 && eqb (s .last) 0)

@@ -7,7 +7,7 @@ ghost use lib.ListN.{length};
 ghost use Rattle.cells.specs.Cells.{chips, lineBytes, checkAt};
 ghost use Rattle.cells.specs.Chips.{mask};
 ghost use Rattle.cells.specs.Checks.{everyOther};
-ghost use Rattle.passes.specs.Syndromes.{syndromesOf, syndromeIn};
+ghost use Rattle.passes.specs.Syndromes.{syndromesOf, syndromeIn, areZero};
 use cells::CHIP_BYTES;
 use cells::CHIPS;
 use cells::checks;
@@ -58,6 +58,19 @@ pub fn unsound_chips(syndromes: Syndromes) -> u32
         unsound = unsound | masks::only_if(syndrome != 0, k);
     }
     unsound
+}
+
+// Whether all nine are zero.
+pub fn are_zero(syndromes: Syndromes) -> bool
+    ensures { λ r. ⌜ r ≡ areZero syndromes ⌝ }
+{
+    if syndromes.eight.even != 0 {
+        return false;
+    }
+    if syndromes.eight.odd != 0 {
+        return false;
+    }
+    syndromes.last == 0
 }
 
 // The check bytes that chips 0 to 7 hold.

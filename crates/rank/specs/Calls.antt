@@ -9,7 +9,8 @@ use Rattle.cells.specs.Cells.{lineBytes, lineWord, stored}
 use Rattle.record.specs.declared.Rank.{Rank}
 use Rattle.rank.specs.declared.Called.{Called}
 use Rattle.rank.specs.declared.PatrolResult.{PatrolResult}
-use Rattle.visits.specs.Runs.{outs, end, upFrom}
+use Rattle.visits.specs.Runs.{outs, end}
+use Rattle.code.specs.Lists.{upFrom}
 use Rattle.memory.specs.Lines.{lineAt, withLine, faulted}
 use Rattle.record.specs.Record.{fresh, booted, renewed}
 use Rattle.refusals.specs.Refusals.{bootRefusal, writeRefusal, readTests, patrolRefusal, renewRefusal, faultRefusal}

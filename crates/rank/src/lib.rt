@@ -88,7 +88,8 @@ pub extern "C" fn rank_read(
         collisions: 0,
     };
     if refusal == 0 {
-        visited = read::visit_into(&mut after.catch_words, memory, line, buffer);
+        let lines = after.lines;
+        visited = read::visit_into(&mut after.catch_words, memory, lines, line, buffer);
         record::count(&mut after.repairs, task, visited.refusal, visited.flagged);
         let words = after.catch_words;
         record::set_registers(&mut after.registers, words, visited.collisions);

@@ -1,4 +1,5 @@
-// What the program `vectors_rank` is written in: the calls on a rank of four lines, one after another, each compared with what is due.
+// What the programs `vectors_rank` and `vectors_rows` are written in: the calls on a rank of four lines, one after another, each compared
+// with what is due.
 use record::Rank;
 
 // The catch-words of document 01's bench.
@@ -22,6 +23,11 @@ pub fn booted() -> Session {
         made: 0,
         held: 0,
     }
+}
+
+// Prints what a session tried, how many of its calls did what was due, and of how many.
+pub fn report(what: &[u8], s: Session) {
+    trials::report(what, s.held, s.made);
 }
 
 // A record with one catch-word for all nine chips.

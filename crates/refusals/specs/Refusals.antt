@@ -1,5 +1,5 @@
--- Document 01, "Refusals caused by the input" and "Refusals caused by the state", and document 02, Req 01 and Req 02: each condition once,
--- then their order for each call. r stands for the record, m for the lent memory and x for the 81 bytes of a line.
+-- Document 01, "Refusals caused by the input" and "Refusals caused by the state", and document 02, Req 01, Req 02 and Req 04: each condition
+-- once, then their order for each call. r stands for the record, m for the lent memory, l for a line's number and x for the line's 81 bytes.
 -- Definitions alone; what holds of them is in `RefusalLaws` and `VisitRefusalLaws`.
 use Prim.Native.Nat.{ℕ, zero, suc, _*_, _/_, _%_}
 use mathlib.Core.Bool.{Bool, not, _&&_, _||_, cond}
@@ -9,6 +9,9 @@ use lib.ListN.{length, getD}
 use Rattle.cells.specs.Cells.{chipBytes, chips, dataBytes, lineBytes}
 use Rattle.cells.specs.Chips.{xorAll, count}
 use Rattle.passes.specs.Passes.{passOne, passThree, flaggedChips, beyondChips}
+use Rattle.line.specs.Blame.{Evidence, blamedChips}
+use Rattle.memory.specs.Lines.{lineAt}
+use Rattle.rows.specs.Rows.{evidenceOf}
 use Rattle.record.specs.declared.Rank.{Rank}
 use Rattle.record.specs.Record.{lineLimit, isLineCount, isTask}
 
@@ -80,21 +83,28 @@ abbrev pub refused14 : Rank → ℕ
 refused14 r = refusedIf (registerDiffers r) 14
 
 -- 20: none flagged, words don't xor to zero
-unfoldable pub unlocated : List ℕ → List ℕ → Bool
-unlocated x cws = eqb (flaggedChips x cws) 0 && not (eqb (xorAll (passOne x cws) chips) 0)
+unfoldable pub unlocatedBy : List ℕ → List ℕ → Bool
+unlocatedBy x cws = eqb (flaggedChips x cws) 0 && not (eqb (xorAll (passOne x cws) chips) 0)
 
-abbrev pub refused20 : List ℕ → List ℕ → ℕ
-refused20 x cws = refusedIf (unlocated x cws) 20
+unfoldable pub unlocated : Rank → List ℕ → ℕ → Bool
+unlocated r m l = unlocatedBy (lineAt m l) (r .«catch_words»)
+
+abbrev pub refused20 : Rank → List ℕ → ℕ → ℕ
+refused20 r m l = refusedIf (unlocated r m l) 20
 
 -- 21: two or more flagged, mended words don't xor to zero. Document 02, Req 02: so if none of them is beyond mending; not if just one is; in
--- any case if two or more are
-unfoldable pub uncorrectable : List ℕ → List ℕ → Bool
-uncorrectable x cws =
+-- any case if two or more are. Req 04: where none is beyond mending, only if no chip is blamed by the words flagged on the other lines of the row
+unfoldable pub uncorrectableBy : Evidence → List ℕ → List ℕ → Bool
+uncorrectableBy e x cws =
     ltb 1 (flaggedChips x cws)
-    && (ltb 1 (beyondChips x cws) || (eqb (beyondChips x cws) 0 && not (eqb (xorAll (passThree x cws) chips) 0)))
+    && (ltb 1 (beyondChips x cws)
+    || (eqb (beyondChips x cws) 0 && (not (eqb (xorAll (passThree x cws) chips) 0) && eqb (blamedChips e x cws) 0)))
 
-abbrev pub refused21 : List ℕ → List ℕ → ℕ
-refused21 x cws = refusedIf (uncorrectable x cws) 21
+unfoldable pub uncorrectable : Rank → List ℕ → ℕ → Bool
+uncorrectable r m l = uncorrectableBy (evidenceOf (r .lines) m l (r .«catch_words»)) (lineAt m l) (r .«catch_words»)
+
+abbrev pub refused21 : Rank → List ℕ → ℕ → ℕ
+refused21 r m l = refusedIf (uncorrectable r m l) 21
 
 -- 31: task not below 8
 unfoldable pub taskOut : ℕ → Bool
@@ -132,10 +142,9 @@ writeRefusal r m l b = firstOf (lineRefusals r m l ++ (refused2 b ∷ []))
 unfoldable pub readTests : Rank → List ℕ → ℕ → ℕ → List ℕ → ℕ
 readTests r m task l b = firstOf (visitRefusals r m task l ++ (refused2 b ∷ []))
 
--- read: these, then 20 or 21, by what the visit finds in the line's bytes x
-unfoldable pub readRefusal : Rank → List ℕ → ℕ → ℕ → List ℕ → List ℕ → ℕ
-readRefusal r m task l b x =
-    firstOf (visitRefusals r m task l ++ (refused2 b ∷ refused20 x (r .«catch_words») ∷ refused21 x (r .«catch_words») ∷ []))
+-- read: these, then 20 or 21, by what the visit finds
+unfoldable pub readRefusal : Rank → List ℕ → ℕ → ℕ → List ℕ → ℕ
+readRefusal r m task l b = firstOf (visitRefusals r m task l ++ (refused2 b ∷ refused20 r m l ∷ refused21 r m l ∷ []))
 
 -- patrol has no 20 or 21 of its own
 unfoldable pub patrolRefusal : Rank → List ℕ → ℕ → ℕ → ℕ

@@ -146,7 +146,7 @@ prints-ended g same = ap (λ (x : Reply). g .printed ++ x .text) (sym same)
 
 -- ---- a run over one line
 
-module _ (p : Progress) (bytes l o l′ : List ℕ) (e kept : ℕ) (size : length l ≡ 41) (most : p .kept ≤ 41) (room : p .length + 32 ≤ length o)
+module _ (p : Progress) (bytes l o l′ : List ℕ) (e kept : ℕ) (size : length l ≡ 41) (most : p .kept ≤ 41) (room : p .length + 33 ≤ length o)
     (end : e ≡ p .taken + indexOf lineFeed (slice (p .taken) (length bytes) bytes)) (within : e ≤ length bytes)
     (laid : Laid l (p .kept) (take (length l - p .kept) (part bytes (p .taken) e)) l′ kept) where
   kept-is : {g : Session} {m : List ℕ} → Stands g (p .rank) (p .kept) m l → take kept l′ ≡ take 41 (g .begun ++ part bytes (p .taken) e)
@@ -171,7 +171,7 @@ module _ (p : Progress) (bytes l o l′ : List ℕ) (e kept : ℕ) (size : lengt
       }
 
   -- the line ends
-  pub advance-end : {m m′ o′ : List ℕ} {a : Answered} → (e ≡ length bytes → ⊥) → a .length ≤ p .length + 32
+  pub advance-end : {m m′ o′ : List ℕ} {a : Answered} → (e ≡ length bytes → ⊥) → a .length ≤ p .length + 33
       → Replies (replyTo (take kept l′) (p .rank) m) a m′ (p .length) o o′
       → Advance p (record { rank = a .rank; kept = 0; taken = e + 1; length = a .length }) bytes m l o m′ l′ o′
   unfolding goesOn
@@ -236,7 +236,7 @@ pub record Going (start p : Progress) (bytes m₀ l₀ o₀ m l o : List ℕ) : 
   pub out-size : length o ≡ length o₀
   pub unmoved : p .taken ≡ start .taken → p .length ≡ start .length
 
-pub going-none : (start : Progress) (bytes m l o : List ℕ) → start .kept ≤ 41 → start .taken ≤ length bytes → start .length + 32 ≤ length o
+pub going-none : (start : Progress) (bytes m l o : List ℕ) → start .kept ≤ 41 → start .taken ≤ length bytes → start .length + 33 ≤ length o
     → length l ≡ 41
     → Going start start bytes m l o m l o
 going-none start bytes m l o kept taken room size =
@@ -284,7 +284,7 @@ none-begun : (s : List ℕ) → [] ≡ take 41 s → s ≡ []
 none-begun [] e = refl
 none-begun (b ∷ s) e = let z : _≡_ {A = ℕ} 0 1 = cc in absurd (omega arith)
 
-pub finish-none : (p : Progress) (m l o : List ℕ) → p .kept ≡ 0 → p .length + 32 ≤ length o → Finish p (p .length) m l o m o
+pub finish-none : (p : Progress) (m l o : List ℕ) → p .kept ≡ 0 → p .length + 33 ≤ length o → Finish p (p .length) m l o m o
 unfolding finished finishedBy
 finish-none p m l o e room =
     let same : (g : Session) → Stands g (p .rank) (p .kept) m l → finished g ≡ g =
@@ -303,7 +303,7 @@ some-begun [] g h = absurd (h refl)
 some-begun (b ∷ s) g h = refl
 
 pub finish-line : {p : Progress} {m l o m′ o′ : List ℕ} {a : Answered} → (p .kept ≡ 0 → ⊥) → p .kept ≤ 41 → length l ≡ 41
-    → p .length + 32 ≤ length o → a .length ≤ p .length + 32
+    → p .length + 33 ≤ length o → a .length ≤ p .length + 33
     → Replies (replyTo (take (p .kept) l) (p .rank) m) a m′ (p .length) o o′ → Finish p (a .length) m l o m′ o′
 unfolding finished
 finish-line {p} {m} {l} {o} {m′} {o′} {a} some most size room short h =

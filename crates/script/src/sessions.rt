@@ -2,7 +2,7 @@
 ghost use mathlib.Core.Path.{_≡_};
 ghost use Prim.Native.Nat.{_+_, _-_, _≤_, _<_};
 ghost use lib.ListN.{length, take};
-ghost use Rattle.texts.specs.Texts.{Laid};
+ghost use Rattle.texts.specs.Texts.{longestText, Laid};
 ghost use Rattle.script.specs.Sessions.{Advance, Finish};
 use answers::answer;
 use bytes::scan::find;
@@ -30,14 +30,14 @@ pub fn take_up(
     out: &mut [u8],
 ) -> Progress
     requires line { ⌜ (length (now line) ≡ 41) × (start .kept ≤ 41) ⌝ }
-    requires places { ⌜ (start .taken ≤ length (now bytes)) × (start .length + 32 ≤ length (now out)) ⌝ }
+    requires places { ⌜ (start .taken ≤ length (now bytes)) × (start .length + longestText ≤ length (now out)) ⌝ }
     ensures advance { λ r. ⌜ Advance start r (now (bytes .entry)) (now (memory .entry)) (now (line .entry)) (now (out .entry))
         (now (memory .exit)) (now (line .exit)) (now (out .exit)) ⌝ }
     ensures moves { λ r. ⌜ (start .taken < length (now (bytes .entry)) → start .taken < r .taken) ⌝ }
 {
     let mut p = start;
     while p.taken < bytes.len() {
-        if out.len() - p.length < 32 {
+        if out.len() - p.length < texts::LONGEST_TEXT {
             return p;
         }
         p = step(p, memory, line, bytes, out);
@@ -48,7 +48,7 @@ pub fn take_up(
 // Answers the line that has begun, if one has, at the end of the input. Answers how many bytes of output there are then.
 pub fn finish(last: Progress, memory: &mut [u8], line: &[u8], out: &mut [u8]) -> usize
     requires line { ⌜ (length (now line) ≡ 41) × (last .kept ≤ 41) ⌝ }
-    requires room { ⌜ last .length + 32 ≤ length (now out) ⌝ }
+    requires room { ⌜ last .length + longestText ≤ length (now out) ⌝ }
     ensures { λ r. ⌜ Finish last r (now (memory .entry)) (now (line .entry)) (now (out .entry)) (now (memory .exit)) (now (out .exit)) ⌝ }
 {
     let kept = last.kept;
@@ -63,7 +63,7 @@ pub fn finish(last: Progress, memory: &mut [u8], line: &[u8], out: &mut [u8]) ->
 // Takes up the rest of the line that has begun, and answers it if it ends here.
 fn step(p: Progress, memory: &mut [u8], line: &mut [u8], bytes: &[u8], out: &mut [u8]) -> Progress
     requires line { ⌜ (length (now line) ≡ 41) × (p .kept ≤ 41) ⌝ }
-    requires places { ⌜ (p .taken < length (now bytes)) × (p .length + 32 ≤ length (now out)) ⌝ }
+    requires places { ⌜ (p .taken < length (now bytes)) × (p .length + longestText ≤ length (now out)) ⌝ }
     ensures advance { λ r. ⌜ Advance p r (now (bytes .entry)) (now (memory .entry)) (now (line .entry)) (now (out .entry))
         (now (memory .exit)) (now (line .exit)) (now (out .exit)) ⌝ }
     ensures moves { λ r. ⌜ p .taken < r .taken ⌝ }

@@ -36,13 +36,14 @@ digits-back b (suc k) n p h l =
     ∙ ap₂ (λ (x y : ℕ). x * b + y) (digits-back b k (n / b) p h fewer) (digit-by (ltb (n % b) 10) (n % b) refl (lt-of-lt-of-le (mod-lt n p) h))
     ∙ div-add-mod' n b
 
-pub decimal-back : (n : ℕ) → n < 100 → valueOf 10 (decimalText n) ≡ n
+pub decimal-back : (n : ℕ) → n < 1000 → valueOf 10 (decimalText n) ≡ n
 unfolding decimalText
-decimal-back n h = by (ltb n 10) refl
+decimal-back n h = by (ltb n 10) refl (ltb n 100) refl
   where
-    by : (t : Bool) → ltb n 10 ≡ t → valueOf 10 (digits 10 (cond t 1 2) n) ≡ n
-    by true e = digits-back 10 1 n (lit< tt) (lit≤ tt) (ltb-true n 10 e)
-    by false e = digits-back 10 2 n (lit< tt) (lit≤ tt) h
+    by : (t : Bool) → ltb n 10 ≡ t → (u : Bool) → ltb n 100 ≡ u → valueOf 10 (digits 10 (cond t 1 (cond u 2 3)) n) ≡ n
+    by true e u g = digits-back 10 1 n (lit< tt) (lit≤ tt) (ltb-true n 10 e)
+    by false e true g = digits-back 10 2 n (lit< tt) (lit≤ tt) (ltb-true n 100 g)
+    by false e false g = digits-back 10 3 n (lit< tt) (lit≤ tt) h
 
 pub hex-whole : (k n : ℕ) → n < 16 ^ k → valueOf 16 (hexText k n) ≡ n
 unfolding hexText

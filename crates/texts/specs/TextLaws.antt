@@ -5,7 +5,7 @@ use mathlib.Core.Logic.{⊎-elim}
 use mathlib.Core.Bool.{Bool, true, false, cond}
 use mathlib.Core.List.{List, [], _++_, append-nil, append-assoc}
 use Prim.Native.Nat.{ℕ, _+_, _-_, _^_, _≤_, _<_, min, max}
-use native.Mathlib.Nat.{le-refl, le-antisymm, eq-zero-or-pos, eq-or-lt-of-le, pow-le-pow-right}
+use native.Mathlib.Nat.{le-refl, le-antisymm, eq-zero-or-pos, pow-le-pow-right}
 use native.Mathlib.Omega.{arith}
 use lib.Dec.{ltb, lit<}
 use lib.ListN.{length, take, drop, length-append, length-take, drop-of-length-le}
@@ -42,18 +42,25 @@ fewest-most b least n k m p f l h =
     absurd (omega (arith, pow-le-pow-right p shorter, f .2 (omega arith))))
     (eq-zero-or-pos (k - m))
 
-module _ (n k : ℕ) (f : Fewest 10 1 n k) (h : n < 100) where
-  pub decimal-most : k ≤ 2
-  decimal-most = fewest-most 10 1 n k 2 (lit< tt) f (omega arith) h
+-- and no fewer
+fewest-least : (b least n k m : ℕ) → 0 < b → Fewest b least n k → b ^ m ≤ n → m < k
+fewest-least b least n k m p f h =
+    ⊎-elim (λ (none : k - m ≡ 0). let longer : k ≤ m = omega arith in absurd (omega (arith, pow-le-pow-right p longer, f .1, h)))
+    (λ (more : 0 < k - m). omega arith)
+    (eq-zero-or-pos (k - m))
 
-  pub decimal-count : k ≡ cond (ltb n 10) 1 2
-  decimal-count = by (ltb n 10) refl
+module _ (n k : ℕ) (f : Fewest 10 1 n k) (h : n < 1000) where
+  pub decimal-most : k ≤ 3
+  decimal-most = fewest-most 10 1 n k 3 (lit< tt) f (omega arith) h
+
+  pub decimal-count : k ≡ cond (ltb n 10) 1 (cond (ltb n 100) 2 3)
+  decimal-count = by (ltb n 10) refl (ltb n 100) refl
     where
-      by : (t : Bool) → ltb n 10 ≡ t → k ≡ cond t 1 2
-      by true e = le-antisymm (fewest-most 10 1 n k 1 (lit< tt) f (le-refl 1) (ltb-true n 10 e)) (f .0)
-      by false e =
-          le-antisymm decimal-most
-          (⊎-elim (λ (one : 1 ≡ k). absurd (omega (arith, rw (sym one) at (f .1), ltb-false n 10 e))) (λ more. more) (eq-or-lt-of-le (f .0)))
+      by : (t : Bool) → ltb n 10 ≡ t → (u : Bool) → ltb n 100 ≡ u → k ≡ cond t 1 (cond u 2 3)
+      by true e u g = le-antisymm (fewest-most 10 1 n k 1 (lit< tt) f (le-refl 1) (ltb-true n 10 e)) (f .0)
+      by false e true g =
+          le-antisymm (fewest-most 10 1 n k 2 (lit< tt) f (omega arith) (ltb-true n 100 g)) (fewest-least 10 1 n k 1 (lit< tt) f (ltb-false n 10 e))
+      by false e false g = le-antisymm decimal-most (fewest-least 10 1 n k 2 (lit< tt) f (ltb-false n 100 g))
 
 pub hex-count : (n w k : ℕ) → Fewest 16 (min (max w 1) 16) n k → (0 < w) × (w ≤ 16) × (n < 16 ^ w) → k ≡ w
 hex-count n w k f h =

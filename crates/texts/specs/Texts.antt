@@ -14,9 +14,9 @@ use Rattle.events.specs.Fields.{space, lineFeed}
 unfoldable pub hexText : ℕ → ℕ → List ℕ
 hexText k n = digits 16 k n
 
--- a number below 100 in decimal: one digit or two
+-- a number below 1,000 in decimal: as few digits as hold it
 unfoldable pub decimalText : ℕ → List ℕ
-decimalText n = digits 10 (cond (ltb n 10) 1 2) n
+decimalText n = digits 10 (cond (ltb n 10) 1 (cond (ltb n 100) 2 3)) n
 
 -- the letter and 0 or the refusal
 unfoldable pub callText : ℕ → ℕ → List ℕ
@@ -35,6 +35,10 @@ readText word passes flagged collisions =
 -- every other line prints `?`
 unfoldable pub unknownText : List ℕ
 unknownText = 63 ∷ lineFeed ∷ []
+
+-- the longest of these has 33 bytes, that of an answered r with passes of three digits
+abbrev pub longestText : ℕ
+longestText = 33
 
 -- a text stands in the bytes from a place on, and the other bytes are as before; next is the place behind it
 pub record Laid (before : List ℕ) (at : ℕ) (text after : List ℕ) (next : ℕ) : Type 0 where

@@ -4,13 +4,16 @@ ghost use mathlib.Core.List.{_∷_};
 ghost use Prim.Native.Nat.{_+_, _^_, _≤_, _<_};
 ghost use lib.ListN.{length};
 ghost use Rattle.events.specs.Fields.{space};
-ghost use Rattle.texts.specs.Texts.{hexText, decimalText, callText, visitText, readText, unknownText, Laid};
+ghost use Rattle.texts.specs.Texts.{hexText, decimalText, callText, visitText, readText, unknownText, longestText, Laid};
+
+// The bytes of the longest text.
+pub const LONGEST_TEXT: usize = 33;
 
 // The letter and 0 or the refusal.
 pub fn spell_call(out: &mut [u8], at: usize, letter: u8, refusal: u32) -> usize
-    requires { ⌜ (at + 32 ≤ length (now out)) × (refusal < 100) ⌝ }
+    requires { ⌜ (at + longestText ≤ length (now out)) × (refusal < 1000) ⌝ }
     ensures laid { λ r. ⌜ Laid (now (out .entry)) at (callText letter refusal) (now (out .exit)) r ⌝ }
-    ensures most { λ r. ⌜ r ≤ at + 32 ⌝ }
+    ensures most { λ r. ⌜ r ≤ at + longestText ⌝ }
 {
     let a = put(out, at, &[letter]);
     let b = put_decimal(out, a, refusal);
@@ -26,10 +29,10 @@ pub fn spell_read(
     flagged: u32,
     collisions: u32,
 ) -> usize
-    requires room { ⌜ at + 32 ≤ length (now out) ⌝ }
-    requires small { ⌜ (passes < 100) × (flagged < 4096) × (collisions < 4096) ⌝ }
+    requires room { ⌜ at + longestText ≤ length (now out) ⌝ }
+    requires small { ⌜ (passes < 1000) × (flagged < 4096) × (collisions < 4096) ⌝ }
     ensures laid { λ r. ⌜ Laid (now (out .entry)) at (readText word passes flagged collisions) (now (out .exit)) r ⌝ }
-    ensures most { λ r. ⌜ r ≤ at + 32 ⌝ }
+    ensures most { λ r. ⌜ r ≤ at + longestText ⌝ }
 {
     let a = put(out, at, b"r 0");
     let b = put_hex(out, a, word, 16);
@@ -39,30 +42,30 @@ pub fn spell_read(
 
 // A line that is no event.
 pub fn spell_unknown(out: &mut [u8], at: usize) -> usize
-    requires { ⌜ at + 32 ≤ length (now out) ⌝ }
+    requires { ⌜ at + longestText ≤ length (now out) ⌝ }
     ensures laid { λ r. ⌜ Laid (now (out .entry)) at unknownText (now (out .exit)) r ⌝ }
-    ensures most { λ r. ⌜ r ≤ at + 32 ⌝ }
+    ensures most { λ r. ⌜ r ≤ at + longestText ⌝ }
 {
     put(out, at, b"?\n")
 }
 
 // Passes and masks.
 fn put_visit(out: &mut [u8], at: usize, passes: u32, flagged: u32, collisions: u32) -> usize
-    requires room { ⌜ at + 11 ≤ length (now out) ⌝ }
-    requires small { ⌜ (passes < 100) × (flagged < 4096) × (collisions < 4096) ⌝ }
+    requires room { ⌜ at + 12 ≤ length (now out) ⌝ }
+    requires small { ⌜ (passes < 1000) × (flagged < 4096) × (collisions < 4096) ⌝ }
     ensures laid { λ r. ⌜ Laid (now (out .entry)) at (visitText passes flagged collisions) (now (out .exit)) r ⌝ }
-    ensures most { λ r. ⌜ r ≤ at + 11 ⌝ }
+    ensures most { λ r. ⌜ r ≤ at + 12 ⌝ }
 {
     let a = put_decimal(out, at, passes);
     let b = put_hex(out, a, flagged as u64, 3);
     put_hex(out, b, collisions as u64, 3)
 }
 
-// A space and a number below 100 in decimal.
+// A space and a number below 1,000 in decimal.
 fn put_decimal(out: &mut [u8], at: usize, n: u32) -> usize
-    requires { ⌜ (at + 3 ≤ length (now out)) × (n < 100) ⌝ }
+    requires { ⌜ (at + 4 ≤ length (now out)) × (n < 1000) ⌝ }
     ensures laid { λ r. ⌜ Laid (now (out .entry)) at (space ∷ decimalText n) (now (out .exit)) r ⌝ }
-    ensures most { λ r. ⌜ r ≤ at + 3 ⌝ }
+    ensures most { λ r. ⌜ r ≤ at + 4 ⌝ }
 {
     let mut digits = [0u8; 20];
     let count = io::decimal(n as u64, &mut digits);

@@ -1,5 +1,5 @@
-// What the programs `vectors_code`, `vectors_line` and `vectors_rank` share: words of a fixed sequence, a CRC-8 made another way than that
-// of `code`, and the line of output that says how many trials of a kind succeeded.
+// What the programs `vectors_code`, `vectors_line`, `vectors_rank` and `vectors_rows` share: words of a fixed sequence, a CRC-8 made
+// another way than that of `code`, and the line of output that says how many trials of a kind succeeded.
 use libc::STDOUT_FILENO;
 
 // Prints what was tried, how many trials succeeded, and of how many.

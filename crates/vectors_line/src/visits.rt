@@ -1,5 +1,6 @@
-// Visits to lines of which up to three chips are damaged or hold their catch-word. A row has a number for each of the three chips, the
-// refusal that is due, 0 for an answer, and the passes.
+// Visits to lines of which up to three chips are damaged or hold their catch-word. A kind of visit has a number for each of the three
+// chips, the refusal that is due, 0 for an answer, and the passes. Each line is a memory of its own: its row has no other line, and nothing
+// is diagnosed.
 use super::lines;
 
 // The chip is as it was laid.
@@ -61,15 +62,15 @@ fn report_refused() {
     visits(b"21 by 03h twice and a bit", [C03, C03, BIT, 21, 3]);
 }
 
-fn visits(what: &[u8], row: [u32; 5]) {
-    trials::report(what, count_visits(row), 648);
+fn visits(what: &[u8], kind: [u32; 5]) {
+    trials::report(what, count_visits(kind), 648);
 }
 
 // How many of 648 visits succeed.
-fn count_visits(row: [u32; 5]) -> u64 {
+fn count_visits(kind: [u32; 5]) -> u64 {
     let mut count = 0;
     for i in 0..648 {
-        if visit_succeeds(i, row) {
+        if visit_succeeds(i, kind) {
             count += 1;
         }
     }
@@ -77,13 +78,13 @@ fn count_visits(row: [u32; 5]) -> u64 {
 }
 
 // Whether an answered line is left as it was laid, and a refused one as it was damaged.
-fn visit_succeeds(i: u64, row: [u32; 5]) -> bool {
+fn visit_succeeds(i: u64, kind: [u32; 5]) -> bool {
     let words = lines::words_of(i);
-    let collisions = mask_of(i, row, SAME, SAME);
-    let numbers = [row[3], row[4], mask_of(i, row, BIT, C03), collisions];
+    let collisions = mask_of(i, kind, SAME, SAME);
+    let numbers = [kind[3], kind[4], mask_of(i, kind, BIT, C03), collisions];
     let catch_words = catch_words_of(words, collisions);
-    let line = damaged(i, row);
-    if row[3] != 0 {
+    let line = damaged(i, kind);
+    if kind[3] != 0 {
         return visit_leaves(line, catch_words, numbers, line);
     }
     visit_leaves(line, catch_words, numbers, lines::laid(words))
@@ -97,7 +98,7 @@ pub fn visit_leaves(
     after: [u8; 81],
 ) -> bool {
     let mut line = before;
-    let report = line::visit(&mut line, &catch_words);
+    let report = steps::visit(&mut line, 1, 0, &catch_words);
     let outcome = report.outcome;
     let refusal = line::refusal(outcome);
     let reported = [refusal, report.passes, report.flagged, report.collisions];
@@ -105,11 +106,11 @@ pub fn visit_leaves(
 }
 
 // Line i with its damages.
-fn damaged(i: u64, row: [u32; 5]) -> [u8; 81] {
+fn damaged(i: u64, kind: [u32; 5]) -> [u8; 81] {
     let sound = lines::laid(lines::words_of(i));
-    let one = lines::xored(sound, chip_of(i, 0), pattern_of(row[0], i));
-    let two = lines::xored(one, chip_of(i, 1), pattern_of(row[1], i));
-    lines::xored(two, chip_of(i, 2), pattern_of(row[2], i))
+    let one = lines::xored(sound, chip_of(i, 0), pattern_of(kind[0], i));
+    let two = lines::xored(one, chip_of(i, 1), pattern_of(kind[1], i));
+    lines::xored(two, chip_of(i, 2), pattern_of(kind[2], i))
 }
 
 // The three chips of trial i, modulo 9. Over 648 trials each bit of each chip is once that of the first chip, and each two chips are first
@@ -141,10 +142,10 @@ fn one_bit(bit: u64) -> [u8; 9] {
 }
 
 // The mask of the chips whose numbers are from one to another, bit K for chip K.
-fn mask_of(i: u64, row: [u32; 5], low: u32, high: u32) -> u32 {
-    let one = bit_if(low <= row[0] && row[0] <= high, chip_of(i, 0));
-    let two = bit_if(low <= row[1] && row[1] <= high, chip_of(i, 1));
-    one | two | bit_if(low <= row[2] && row[2] <= high, chip_of(i, 2))
+fn mask_of(i: u64, kind: [u32; 5], low: u32, high: u32) -> u32 {
+    let one = bit_if(low <= kind[0] && kind[0] <= high, chip_of(i, 0));
+    let two = bit_if(low <= kind[1] && kind[1] <= high, chip_of(i, 1));
+    one | two | bit_if(low <= kind[2] && kind[2] <= high, chip_of(i, 2))
 }
 
 fn bit_if(test: bool, chip: u64) -> u32 {

@@ -1,6 +1,6 @@
 // The calls on a rank, tried at run time. Each line of output says what was tried, how many trials succeeded, and of how many.
-use rank_trials::Session;
 use rank_trials::booted;
+use rank_trials::report;
 
 mod refused;
 mod scripts;
@@ -15,8 +15,4 @@ fn main() {
     report(b"catch-words moved, with a carry", scripts::moves(booted()));
     report(b"patrols over damaged lines", scripts::patrols(booted()));
     report(b"repair totals by task", scripts::totals(booted()));
-}
-
-fn report(what: &[u8], s: Session) {
-    trials::report(what, s.held, s.made);
 }

@@ -20,7 +20,7 @@ pub fn bench(s: Session) -> Session {
     let s = read(s, 0, 0, 0x11, 64, [0, 2, 0x008, 0x000]);
     let s = fault(s, 0, 3, [0, 0, 7], 9, 0);
     let s = fault(s, 0, 5, [0, 1, 0], 9, 0);
-    read(s, 0, 0, 0x5a, 64, [21, 3, 0x028, 0x000])
+    read(s, 0, 0, 0x5a, 64, [21, 9, 0x028, 0x000])
 }
 
 // Mistakes that document 01 names: a collision is no fault, so that no word counts as repaired; chip 8 is flagged and collides as the others
@@ -45,7 +45,7 @@ fn collisions_refused(s: Session) -> Session {
     let s = fault(s, 1, 0, [0, 1, 7], 9, 0);
     let s = fault(s, 1, 3, [0, 0, 7], 9, 0);
     let s = fault(s, 1, 5, [0, 1, 0], 9, 0);
-    let s = read(s, 1, 0, 0x5a, 64, [21, 3, 0x028, 0x004]);
+    let s = read(s, 1, 0, 0x5a, 64, [21, 9, 0x028, 0x004]);
     let s = fault(s, 1, 3, [0, 0, 4], 9, 0);
     let s = fault(s, 1, 5, [3, 1, 0], 9, 0);
     let s = read(s, 1, 0, 0x5a, 64, [21, 3, 0x028, 0x004]);
@@ -83,7 +83,7 @@ pub fn patrols(s: Session) -> Session {
     let s = patrol(s, 0, 3, 4, [0, 4, 2, 0]);
     let s = read(s, 0, 0, 0x5a, 64, [20, 1, 0x000, 0x000]);
     let s = read(s, 1, 0, 0x21, 64, [0, 1, 0x000, 0x000]);
-    let s = read(s, 2, 0, 0x5a, 64, [21, 3, 0x028, 0x000]);
+    let s = read(s, 2, 0, 0x5a, 64, [21, 9, 0x028, 0x000]);
     let s = read(s, 3, 0, 0x23, 64, [0, 1, 0x000, 0x000]);
     totals_are(s, [0, 1, 2, 0, 0, 0, 0, 0])
 }

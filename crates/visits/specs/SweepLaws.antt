@@ -13,7 +13,7 @@ use Rattle.cells.specs.ChipLaws.{bit-lt, ones-mask}
 use Rattle.cells.specs.MaskLaws.{no-ones}
 use Rattle.passes.specs.Passes.{isFlagged}
 use Rattle.passes.specs.Scan.{isClean}
-use Rattle.line.specs.Visit.{outcomeOf, bytesAfter, reportOf, refusalOf}
+use Rattle.line.specs.Visit.{reportOf, refusalOf}
 use Rattle.line.specs.declared.Report.{Report}
 use Rattle.line.specs.OutcomeLaws.{either-answered}
 use Rattle.line.specs.declared.Outcome.{Outcome}
@@ -22,8 +22,10 @@ use Rattle.record.specs.Record.{totalLimit, accepted, countedBy, afterVisit}
 use Rattle.record.specs.RecordLaws.{accepted-after-visit, length-after-visit, total-after-visit}
 use Rattle.memory.specs.Lines.{lineAt, withLine}
 use Rattle.memory.specs.LineLaws.{length-withLine}
+use Rattle.rows.specs.Rows.{reportIn, bytesIn}
 use Rattle.visits.specs.declared.sweep.Tally.{Tally}
-use Rattle.visits.specs.Runs.{Did, outs, end, upFrom}
+use Rattle.visits.specs.Runs.{Did, outs, end}
+use Rattle.code.specs.Lists.{upFrom}
 use Rattle.visits.specs.Visits.{Device, device, visitOf, wordsAfter, refusedBy, rewrittenBy, refusedIn, rewrittenIn}
 use Rattle.visits.specs.VisitLaws.{clean, clean-visit}
 
@@ -60,23 +62,23 @@ rewritten-most : (o : Outcome) (flagged : ℕ) → rewrittenBy o flagged ≤ one
 rewritten-most o flagged = either-answered (λ (n : ℕ). n ≤ ones flagged) o (omega arith) zero-le
 
 -- at most nine chips are flagged
-pub visit-flags : (m cws : List ℕ) {v : Report} → v ≡ reportOf m cws → ones (v .flagged) ≤ 9
-unfolding reportOf
-visit-flags m cws {v} e =
-    let f : ones (v .flagged) ≡ ones (mask (isFlagged m cws) 9) = ap (λ (w : Report). ones (w .flagged)) e in
-    omega (arith, f, flagged-most m cws)
+pub visit-flags : (n : ℕ) (m : List ℕ) (l : ℕ) (cws : List ℕ) {v : Report} → v ≡ reportIn n m l cws → ones (v .flagged) ≤ 9
+unfolding reportIn reportOf
+visit-flags n m l cws {v} e =
+    let f : ones (v .flagged) ≡ ones (mask (isFlagged (lineAt m l) cws) 9) = ap (λ (w : Report). ones (w .flagged)) e in
+    omega (arith, f, flagged-most (lineAt m l) cws)
 
 -- ---- a visit
 
 -- the parts of the record that a visit with report v changes, put together again
-pub parts-visited : (task n l : ℕ) (cws totals s : List ℕ) {cws' totals' x : List ℕ} {v : Report} → v ≡ reportOf (lineAt s l) cws
-    → cws' ≡ wordsAfter (reportOf (lineAt s l) cws) cws → totals' ≡ countedBy (refusalOf (v .outcome)) task (v .flagged) totals → x ≡ withLine s l (bytesAfter (lineAt s l) cws)
+pub parts-visited : (task n l : ℕ) (cws totals s : List ℕ) {cws' totals' x : List ℕ} {v : Report} → v ≡ reportIn n s l cws
+    → cws' ≡ wordsAfter (reportIn n s l cws) cws → totals' ≡ countedBy (refusalOf (v .outcome)) task (v .flagged) totals → x ≡ withLine s l (bytesIn n s l cws)
     → device (accepted n cws' totals') x ≡ visitOf task (device (accepted n cws totals) s) l .now
-unfolding visitOf accepted wordsAfter reportOf
+unfolding visitOf accepted wordsAfter
 parts-visited task n l cws totals s e e₁ e₂ e₃ =
     ap₂ device
     (ap₂ (accepted n) e₁ (e₂ ∙ ap (λ (w : Report). countedBy (refusalOf (w .outcome)) task (w .flagged) totals) e)
-    ∙ accepted-after-visit task (reportOf (lineAt s l) cws) n cws totals) e₃
+    ∙ accepted-after-visit task (reportIn n s l cws) n cws totals) e₃
 
 -- a visit to line l for a task takes the tally t and the memory s to u and x
 pub record Moves (task : ℕ) (t : Tally) (s : List ℕ) (l : ℕ) (u : Tally) (x : List ℕ) : Type 0 where
@@ -144,7 +146,7 @@ module _ {task : ℕ} {r : Rank} {m : List ℕ} {l n : ℕ} {t u : Tally} {s x :
   next : upFrom (l + i) (n - i) ≡ (l + i) ∷ rest
   next = next-line l n i below
 
-  now-rank : u .rank ≡ afterVisit task (reportOf (lineAt s (l + i)) (t .rank .«catch_words»)) (t .rank)
+  now-rank : u .rank ≡ afterVisit task (reportIn (t .rank .lines) s (l + i) (t .rank .«catch_words»)) (t .rank)
   unfolding visitOf
   now-rank = ap (λ (d : Device). d .rank) (moves .after)
 
@@ -152,15 +154,13 @@ module _ {task : ℕ} {r : Rank} {m : List ℕ} {l n : ℕ} {t u : Tally} {s x :
   unfolding visitOf
   now-size =
       ap (λ (d : Device). length (d .memory)) (moves .after)
-      ∙ length-withLine s (l + i) (bytesAfter (lineAt s (l + i)) (t .rank .«catch_words»))
+      ∙ length-withLine s (l + i) (bytesIn (t .rank .lines) s (l + i) (t .rank .«catch_words»))
 
   few : rewrittenBy (visitOf task (device (t .rank) s) (l + i) .out .outcome) (visitOf task (device (t .rank) s) (l + i) .out .flagged) ≤ 9
-  unfolding visitOf reportOf
-  few = omega (
-    arith,
-    rewritten-most (outcomeOf (lineAt s (l + i)) (t .rank .«catch_words»)) (mask (isFlagged (lineAt s (l + i)) (t .rank .«catch_words»)) 9),
-    flagged-most (lineAt s (l + i)) (t .rank .«catch_words»),
-  )
+  unfolding visitOf
+  few =
+      let v : Report = reportIn (t .rank .lines) s (l + i) (t .rank .«catch_words») in
+      omega (arith, rewritten-most (v .outcome) (v .flagged), visit-flags (t .rank .lines) s (l + i) (t .rank .«catch_words») {v = v} refl)
 
   pub swept-more : Swept task r m l n u x (i + 1)
   unfolding refusedIn rewrittenIn

@@ -1,10 +1,11 @@
 // The visit of an accepted read.
 ghost use mathlib.Core.Path.{_≡_};
-ghost use Prim.Native.Nat.{_+_, _*_, _≤_};
+ghost use Prim.Native.Nat.{_+_, _*_, _≤_, _<_};
 ghost use lib.ListN.{length};
 ghost use Rattle.cells.specs.Cells.{chips, dataBytes, lineBytes, lineOf};
-ghost use Rattle.line.specs.Visit.{ifAnswered, bytesAfter, reportOf};
+ghost use Rattle.line.specs.Visit.{ifAnswered};
 ghost use Rattle.memory.specs.Lines.{lineAt, withLine};
+ghost use Rattle.rows.specs.Rows.{reportIn, bytesIn};
 ghost use Rattle.visits.specs.Visits.{foundLine, wordsAfter, visitedOf};
 use crate::visit;
 use cells::CHIPS;
@@ -22,18 +23,19 @@ pub struct Visited {
 pub fn visit_into(
     catch_words: &mut [u64; CHIPS],
     memory: &mut [u8],
+    lines: u32,
     line: u32,
     buffer: &mut [u8],
 ) -> Visited
-    requires { ⌜ (length (now «catch_words») ≡ chips) × (lineBytes * line + lineBytes ≤ length (now memory)) × (length (now buffer) ≡ dataBytes) ⌝ }
-    ensures result { λ r. ⌜ r ≡ visitedOf (reportOf (lineAt (now (memory .entry)) line) (now («catch_words» .entry))) ⌝ }
+    requires { ⌜ (length (now «catch_words») ≡ chips) × (lineBytes * lines ≤ length (now memory)) × (line < lines) × (length (now buffer) ≡ dataBytes) ⌝ }
+    ensures result { λ r. ⌜ r ≡ visitedOf (reportIn lines (now (memory .entry)) line (now («catch_words» .entry))) ⌝ }
     ensures catch_words { λ _. ⌜ now («catch_words» .exit)
-        ≡ wordsAfter (reportOf (lineAt (now (memory .entry)) line) (now («catch_words» .entry))) (now («catch_words» .entry)) ⌝ }
+        ≡ wordsAfter (reportIn lines (now (memory .entry)) line (now («catch_words» .entry))) (now («catch_words» .entry)) ⌝ }
     ensures memory { λ _. ⌜ now (memory .exit)
-        ≡ withLine (now (memory .entry)) line (bytesAfter (lineAt (now (memory .entry)) line) (now («catch_words» .entry))) ⌝ }
+        ≡ withLine (now (memory .entry)) line (bytesIn lines (now (memory .entry)) line (now («catch_words» .entry))) ⌝ }
     ensures buffer { λ _. ⌜ now (buffer .exit)
-        ≡ ifAnswered (reportOf (lineAt (now (memory .entry)) line) (now («catch_words» .entry)) .outcome)
-        (foundLine (lineAt (now (memory .entry)) line) (now («catch_words» .entry))) (now (buffer .entry)) ⌝ }
+        ≡ ifAnswered (reportIn lines (now (memory .entry)) line (now («catch_words» .entry)) .outcome)
+        (foundLine lines (now (memory .entry)) line (now («catch_words» .entry))) (now (buffer .entry)) ⌝ }
 {
     // A visit would change nothing.
     if memory::is_clean(memory, line, catch_words) {
@@ -45,7 +47,7 @@ pub fn visit_into(
             collisions: 0,
         };
     }
-    let report = visit(catch_words, memory, line);
+    let report = visit(catch_words, memory, lines, line);
     let outcome = report.outcome;
     copy_answered(outcome, memory, line, buffer);
     Visited {

@@ -6,7 +6,8 @@ ghost use lib.Count.{ones};
 ghost use lib.ListN.{length};
 ghost use Rattle.cells.specs.Cells.{lineBytes};
 ghost use Rattle.record.specs.Record.{lineLimit, taskLimit};
-ghost use Rattle.visits.specs.Runs.{outs, end, upFrom};
+ghost use Rattle.visits.specs.Runs.{outs, end};
+ghost use Rattle.code.specs.Lists.{upFrom};
 ghost use Rattle.visits.specs.Visits.{device, visitOf, refusedBy, rewrittenBy, refusedIn, rewrittenIn};
 use crate::visit;
 use line::Outcome;
@@ -36,7 +37,7 @@ pub fn allowance(budget: u32, left: u32) -> u32
 // Visits n lines from a first line upwards, for one task. A refused line doesn't stop it.
 pub fn sweep(rank: Rank, memory: &mut [u8], task: u32, first: u32, n: u32) -> Tally
     requires { ⌜ (rank .enable ≡ true) × (rank .registers ≡ rank .«catch_words»)
-        × (lineBytes * (first + n) ≤ length (now memory)) × (task < taskLimit) × (first + n ≤ lineLimit) ⌝ }
+        × (lineBytes * rank .lines ≤ length (now memory)) × (task < taskLimit) × (first + n ≤ rank .lines) × (rank .lines ≤ lineLimit) ⌝ }
     ensures refused { λ r. ⌜ r .refused ≡ refusedIn (outs (visitOf task) (device rank (now (memory .entry))) (upFrom first n)) ⌝ }
     ensures rewritten { λ r. ⌜ r .rewritten ≡ rewrittenIn (outs (visitOf task) (device rank (now (memory .entry))) (upFrom first n)) ⌝ }
     ensures after { λ r. ⌜ device (r .rank) (now (memory .exit))
@@ -52,7 +53,7 @@ pub fn sweep(rank: Rank, memory: &mut [u8], task: u32, first: u32, n: u32) -> Ta
     for i in 0..n {
         // A visit to a clean line would change nothing, and there is nothing to count.
         if !memory::is_clean(memory, first + i, &catch_words) {
-            let report = visit(&mut catch_words, memory, first + i);
+            let report = visit(&mut catch_words, memory, lines, first + i);
             let outcome = report.outcome;
             record::count(&mut totals, task, line::refusal(outcome), report.flagged);
             counts = with_visit(counts, report);

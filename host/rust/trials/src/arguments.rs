@@ -34,6 +34,9 @@ pub const FAR_TASKS: [u32; 15] = [8, 9, 10, 15, 16, 31, 64, 255, 256, 256 + 3, 6
 /// Lengths over 130; some equal 64 or 9 modulo 256, 4,096 or 65,536.
 pub const LARGE_LENGTHS: [usize; 9] = [255, 256, 265, 320, 4_105, 4_160, 65_536, 65_545, 65_600];
 
+/// Ranks with more lines are wide: their line numbers need more than 12 bits.
+const WIDE: u32 = 4_096;
+
 /// Draws the arguments of calls on a rank.
 #[derive(Clone, Debug)]
 pub struct Arguments {
@@ -54,10 +57,11 @@ impl Arguments {
         if random.chance(self.wrong) { self.wrong_line(random) } else { self.right_line(random) }
     }
 
-    fn right_line(&self, random: &mut Random) -> u32 {
+    pub(crate) fn right_line(&self, random: &mut Random) -> u32 {
         match random.below(100) {
             // In a wide rank most calls meet on few lines.
-            0..=79 if self.lines > 8 => random.pick(&[0, 1, 4_095, 4_096, self.lines - 2]),
+            0..=79 if self.lines > WIDE => random.pick(&[0, 1, 4_095, 4_096, self.lines - 2]),
+            0..=79 if self.lines > 128 => random.pick(&[0, 1, 127, 128, self.lines - 2]),
             0..=85 => random.number(self.lines),
             _ => self.lines - 1,
         }

@@ -3,7 +3,7 @@ use lemtskavo::ffi::{RankCalled, RankPatrol, RankRead, Record};
 
 use crate::guarded::Guarded;
 use crate::library;
-use crate::model::device;
+use crate::model::device::{self, Step5};
 
 /// One call of a fault list with its arguments; a read's buffer as it is before the call.
 #[derive(Clone, Debug)]
@@ -111,10 +111,10 @@ impl Call {
     }
 }
 
-/// A read by document 01's step 5, without Req 02, on a copy of the memory. It gives the copy too.
-pub fn read_without_req_02(record: Record, memory: &[u8], task: u32, line: u32, buffer: &[u8]) -> (Outcome, Vec<u8>) {
+/// A read on the device model by one of the forms that step 5 has had, on a copy of the memory. It gives the copy too.
+pub fn read_by(by: Step5, record: Record, memory: &[u8], task: u32, line: u32, buffer: &[u8]) -> (Outcome, Vec<u8>) {
     let (mut memory, mut buffer) = (memory.to_vec(), buffer.to_vec());
-    let read = device::read_without_req_02(model_record(record), &mut memory, task, line, &mut buffer);
+    let read = device::read_by(by, model_record(record), &mut memory, task, line, &mut buffer);
     (Outcome { buffer, ..read.into() }, memory)
 }
 

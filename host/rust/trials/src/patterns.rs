@@ -1,5 +1,5 @@
 //! Patterns of damage to one chip.
-use crate::model::code::{self, Cell};
+use crate::model::code::{self, Cell, Status};
 use crate::random::Random;
 
 /// Two bits of the word: beyond mending.
@@ -26,6 +26,16 @@ pub fn xor(one: Cell, other: Cell) -> Cell {
 /// As many bits inverted one after another. The same one may come twice.
 pub fn random_bits(random: &mut Random, bits: usize) -> Cell {
     (0..bits).fold([0; 9], |pattern, _| xor(pattern, one_bit(random.below(72))))
+}
+
+/// Any pattern whose chip tells this.
+pub fn random_with(status: Status, random: &mut Random) -> Cell {
+    loop {
+        let pattern = random.array();
+        if code::status(&pattern) == status {
+            return pattern;
+        }
+    }
 }
 
 /// Bits of the check byte alone.

@@ -8,11 +8,12 @@ use crate::random::Random;
 /// The columns of the table: the refusal numbers of documents 01 and 02, 0 for none.
 const REFUSALS: [u32; 13] = [0, 1, 2, 3, 4, 5, 11, 12, 13, 14, 20, 21, 31];
 
-/// The cases of a visit's step 5, by how many flagged chips are beyond mending (document 02, Req 02).
-pub const STEP_5: [&str; 4] = [
+/// The cases of a visit's step 5, by how many flagged chips are beyond mending (document 02, Req 02) and whether one is blamed (Req 04).
+pub const STEP_5: [&str; 5] = [
     "two or more flagged, none beyond mending: answered",
-    "two or more flagged, none beyond mending: refused 21",
+    "two or more flagged, none beyond mending, none blamed: refused 21",
     "two or more flagged, one beyond mending: answered",
+    "two or more flagged, none beyond mending, one blamed: answered",
     "two or more flagged, two or more beyond mending: refused 21",
 ];
 
@@ -61,16 +62,19 @@ impl Tally {
 
     /// Counts which case of step 5 a read came to, by the statuses of the line's chips before it.
     pub fn step_5(&mut self, statuses: [Status; 9], read: &Outcome) {
-        if read.counts[0] != 3 {
+        let passes = read.counts[0];
+        if passes < 3 {
             return;
         }
         let beyond = statuses.iter().filter(|status| **status == Status::Beyond).count();
-        self.case(match (beyond, read.refusal) {
-            (0, 0) => STEP_5[0],
-            (0, 21) => STEP_5[1],
-            (1, 0) => STEP_5[2],
-            (2.., 21) => STEP_5[3],
-            (_, refusal) => panic!("{beyond} chips are beyond mending, and the read gives {refusal}"),
+        self.case(match (beyond, read.refusal, passes) {
+            (0, 0, 3) => STEP_5[0],
+            // A row of one line adds no pass.
+            (0, 21, _) => STEP_5[1],
+            (1, 0, 3) => STEP_5[2],
+            (0, 0, _) => STEP_5[3],
+            (2.., 21, 3) => STEP_5[4],
+            (_, refusal, _) => panic!("{beyond} chips are beyond mending, and the read gives {refusal} after {passes} passes"),
         });
     }
 

@@ -2,11 +2,11 @@
 use lemtskavo::ffi::Record;
 
 use crate::booted::Booted;
-use crate::call::{Call, Kind, Outcome, read_without_req_02};
+use crate::call::{Call, Kind, Outcome, read_by};
 use crate::guarded::lend;
 use crate::library;
 use crate::model::code;
-use crate::model::device;
+use crate::model::device::{self, Step5};
 use crate::tally::Tally;
 
 /// The task that a call names where it is no matter which.
@@ -85,10 +85,10 @@ impl Twin {
         self.call(&Call::Fault { line, chip, pattern: pattern.to_vec() }, tally).refusal
     }
 
-    /// What a read would give by document 01's step 5, without Req 02, and the memory then; nothing for other calls.
-    pub fn without_req_02(&self, call: &Call) -> Option<(Outcome, Vec<u8>)> {
+    /// What a read would give by one of the forms that step 5 has had, and the memory then; nothing for other calls.
+    pub fn read_by(&self, by: Step5, call: &Call) -> Option<(Outcome, Vec<u8>)> {
         let Call::Read { task, line, buffer } = call else { return None };
-        Some(read_without_req_02(self.record(), &self.model, *task, *line, buffer))
+        Some(read_by(by, self.record(), &self.model, *task, *line, buffer))
     }
 
     /// Gives both another memory.

@@ -1,6 +1,7 @@
 //! Chips that say if they mended (document 02, Req 02): examples, each on the static library beside document 01's step 5 without Req 02.
 use lemtskavo_trials::call::{Call, Outcome};
 use lemtskavo_trials::model::code::{self, Cell, Status};
+use lemtskavo_trials::model::device::Step5;
 use lemtskavo_trials::model::plain::Plain;
 use lemtskavo_trials::patterns::{CHECK_03, CHECK_07, WORD_300, one_bit};
 use lemtskavo_trials::random::Random;
@@ -41,7 +42,7 @@ impl Example {
         }
         let damaged = twin.model.clone();
         let call = Call::Read { task: TASK, line: 0, buffer: UNREAD.to_vec() };
-        let (former, memory) = twin.without_req_02(&call).unwrap();
+        let (former, memory) = twin.read_by(Step5::Document01, &call).unwrap();
         let read = twin.call(&call, &mut tally);
         let former = (former.refusal, former.buffer, memory);
         Example { written, laid, damaged, premise: plain.lines[0].premise(), former, read, twin }

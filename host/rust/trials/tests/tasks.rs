@@ -3,6 +3,7 @@
 //! tells which cases are reached.
 use lemtskavo::ffi::Record;
 use lemtskavo_trials::arguments::Arguments;
+use lemtskavo_trials::bad_row::BadRows;
 use lemtskavo_trials::booted::Booted;
 use lemtskavo_trials::call::{Call, Kind, Outcome};
 use lemtskavo_trials::model::code::Cell;
@@ -27,8 +28,11 @@ fn pattern(random: &mut Random) -> Cell {
     }
 }
 
-/// Any call, with wrong arguments at times.
-fn any(arguments: &Arguments, random: &mut Random) -> Call {
+/// Any call, with wrong arguments at times, or the next one of a bad row.
+fn any(bad_rows: &mut BadRows, arguments: &Arguments, random: &mut Random) -> Call {
+    if let Some(call) = bad_rows.next(arguments, random) {
+        return call;
+    }
     match random.below(100) {
         0..=37 => Call::Fault { line: arguments.line(random), chip: arguments.chip(random), pattern: pattern(random).to_vec() },
         38..=67 => arguments.read(random),
@@ -56,11 +60,11 @@ fn sum(totals: [u32; 8]) -> u64 {
 /// Runs a random list from totals of some value, and compares them after each call with the words rewritten for each task.
 fn count(mut random: Random, start: [u32; 8], tally: &mut Tally) {
     let lines = 1 + random.below(4);
-    let arguments = Arguments::new(lines, 4);
+    let (arguments, mut bad_rows) = (Arguments::new(lines, 4), BadRows::new(4));
     let mut booted = booted(lines, std::array::from_fn(|_| catch_word(&mut random)), start, tally);
     let (mut by_task, mut in_all) = ([0; 8], 0);
     for _ in 0..random.below(120) {
-        let call = any(&arguments, &mut random);
+        let call = any(&mut bad_rows, &arguments, &mut random);
         let (given, memory) = (booted.record, booted.memory.inside().to_vec());
         let outcome = booted.call(&call, tally);
         let totals = outcome.record.repairs;
@@ -145,13 +149,13 @@ fn without_totals(outcome: Outcome) -> Outcome {
 /// Runs one list twice, each time for other tasks: from totals of 0, and in half of the lists from totals near their end.
 fn rename(mut random: Random, tally: &mut Tally) {
     let lines = 1 + random.below(4);
-    let arguments = Arguments::new(lines, 4);
+    let (arguments, mut bad_rows) = (Arguments::new(lines, 4), BadRows::new(4));
     let catch_words = std::array::from_fn(|_| catch_word(&mut random));
     let near_end = random.chance(50);
     let start = std::array::from_fn(|_| if near_end { u32::MAX - random.number(12) } else { 0 });
     let (mut one, mut other) = (booted(lines, catch_words, [0; 8], tally), booted(lines, catch_words, start, tally));
     for _ in 0..random.below(120) {
-        let call = any(&arguments, &mut random);
+        let call = any(&mut bad_rows, &arguments, &mut random);
         let renamed = renamed(&call, &mut random);
         let (here, there) = (one.call(&call, tally), other.call(&renamed, tally));
         if call.task() != renamed.task() && call.rewritten(&here) > 0 {

@@ -51,7 +51,7 @@ pub struct RankCalled {
 pub struct RankRead {
     /// 0 if the line is in the buffer, or the number of a [`Refusal`](crate::Refusal).
     pub refusal: u32,
-    /// Passes made over the line, 1 to 3.
+    /// Passes made: 1 to 3, and if the row was diagnosed, 3 and two for each other line of it, up to 257.
     pub passes: u32,
     /// Bit K: chip K held no codeword. If the line was answered, its word was repaired.
     pub flagged: u32,

@@ -23,9 +23,10 @@
 //!
 //! Proved for every list of calls from an accepted boot, while the premise holds: a read gives the line last written, 64 zeros if none was,
 //! or it refuses with 21; and it does not refuse if one chip alone is damaged, or each chip in one bit at most, or every chip but one in
-//! one bit at most and that one is beyond mending. The premise, at each visit to a line: no chip's damage makes another codeword of its
-//! codeword, and at most one chip has more than one bad bit. Outside the premise a line that is read may not be the one written;
-//! `include/rank.h` has an example.
+//! one bit at most and that one is beyond mending, or blamed by the other lines of its row. The premise, at each visit to a line: no chip's
+//! damage makes another codeword of its codeword, at most one chip has more than one bad bit, and if the row is diagnosed, no chip with one
+//! bad bit is blamed. Outside the premise a line that is read may not be the one written; `include/rank.h` has examples, and says what a row
+//! is and when a chip is blamed.
 //!
 //! Without any premise, every call ends, and a refused call changes no byte of the memory and nothing of the record.
 //!

@@ -78,13 +78,15 @@ impl<'m> Rank<'m> {
     /// Visits a line for a task, repairs it and gives its 64 bytes.
     ///
     /// One flagged chip is rebuilt from the other eight; two or more are mended by their own codes, and if one of them is beyond mending,
-    /// it is rebuilt from the other eight then. Each colliding chip gets another catch-word.
+    /// or is blamed by the other lines of the row, it is rebuilt from the other eight then. Each colliding chip gets another catch-word.
+    /// A read that diagnoses the row takes the time of a patrol over it.
     ///
     /// # Errors
     ///
     /// In this order: [`Refusal::TaskOutOfRange`] (31); [`Refusal::LineOutOfRange`] (1); [`Refusal::Unlocated`] (20) or
-    /// [`Refusal::Uncorrectable`] (21), with how far the visit came, and the line is refused again until it is written. The types rule out
-    /// [`Refusal::NotReady`] (12), [`Refusal::MemoryLength`] (13), [`Refusal::RegisterDiffers`] (14) and [`Refusal::BufferLength`] (2).
+    /// [`Refusal::Uncorrectable`] (21), with how far the visit came, and the line is refused again until it is written, or, after 21 with
+    /// the row diagnosed, until other lines of the row have changed. The types rule out [`Refusal::NotReady`] (12),
+    /// [`Refusal::MemoryLength`] (13), [`Refusal::RegisterDiffers`] (14) and [`Refusal::BufferLength`] (2).
     pub fn read(&mut self, task: u32, line: u32) -> Result<Read, RefusedRead> {
         calls::read(&mut self.record, self.memory, task, line)
     }

@@ -60,7 +60,8 @@ refusals! {
     RegisterDiffers, 14, "a register differs from its catch-word";
     Unlocated, 20, "no chip is flagged, and the nine words don't xor to zero";
     Uncorrectable, 21,
-        "two or more chips are flagged, and two or more of them are beyond mending, or none is and the words don't xor to zero";
+        "two or more chips are flagged, and two or more of them are beyond mending, \
+         or none is, the mended words don't xor to zero and no chip is blamed";
     TaskOutOfRange, 31, "read or patrol: the task is not below 8";
 }
 

@@ -7,7 +7,7 @@ use crate::{DATA_BYTES, Refusal};
 /// What a visit to a line went through. Bit K of a mask is chip K's.
 #[derive(Clone, Copy, Debug, Default, PartialEq, Eq, Hash)]
 pub struct Visit {
-    /// Passes made over the line: 1 to 3, or 0 if it was not visited.
+    /// Passes made: 1 to 3, and if the row was diagnosed, 3 and two for each other line of it, up to 257; 0 if the line was not visited.
     pub passes: u32,
     /// The chips that held no codeword. If the line was answered, they were repaired.
     pub flagged: u32,

@@ -7,10 +7,10 @@ use Rattle.vectors_line.proofs.visits.count_visits.Statement.{statement
 use Rattle.vectors_line.proofs.visits.count_visits.Tie as tie
 
 abbrev Inv-loop : tie.InvT-loop
-Inv-loop row count₀ i₀ count i = (count ≤ i) × (i ≤ 648)
+Inv-loop kind count₀ i₀ count i = (count ≤ i) × (i ≤ 648)
 
 abbrev μ-loop : tie.MeasureT-loop
-μ-loop row count₀ i₀ count i = 648 - i
+μ-loop kind count₀ i₀ count i = 648 - i
 
 loop-again : tie.Need-loop-again Inv-loop μ-loop
 loop-again c = ⊎-elim (λ w. (omega arith, omega arith)) (λ w. (omega arith, omega arith)) (c .if1 .came)

@@ -15,7 +15,8 @@ use Rattle.record.specs.RecordLaws.{accepted-same}
 use Rattle.memory.specs.LineLaws.{length-lineAt}
 use Rattle.visits.specs.declared.sweep.Counts.{Counts}
 use Rattle.visits.specs.declared.sweep.Tally.{Tally}
-use Rattle.visits.specs.Runs.{outs, end, upFrom}
+use Rattle.visits.specs.Runs.{outs, end}
+use Rattle.code.specs.Lists.{upFrom}
 use Rattle.visits.specs.Visits.{device, visitOf, refusedBy, rewrittenBy, refusedIn, rewrittenIn}
 use Rattle.visits.specs.SweepLaws.{Swept, swept-none, Moves, parts-visited, moves-clean, visit-flags, swept-more, all-refused, all-rewritten, all-ended}
 use borrow.Author.Needs.{needs}
@@ -55,7 +56,10 @@ is-clean-requires c κs =
 
 visit-requires : tie.Need-visit-requires Inv-loop μ-loop
 unfolding accepted
-visit-requires c κs = let inv = c .before .before .before .before .before .before .before .loop .inv in (inv .words, omega (arith, inv .size))
+visit-requires c κs =
+    let s = c .before .before .before .before .before .before .before .before .before .before .before in
+    let inv = c .before .before .before .before .before .before .before .loop .inv in
+    (inv .words, omega (arith, inv .size, s .pre .2), omega (arith, s .pre .4))
 
 count-requires : tie.Need-count-requires Inv-loop μ-loop
 unfolding accepted
@@ -65,7 +69,7 @@ with-visit-requires : tie.Need-with-visit-requires Inv-loop μ-loop
 unfolding accepted
 with-visit-requires c κs =
     let inv = c .before .before .before .before .before .before .before .before .before .before .before .before .before .loop .inv in
-    (omega (arith, inv .few-refused), omega (arith, inv .few-rewritten, visit-flags _ _ (c .before .before .before .before .before .visit .ensures .0)))
+    (omega (arith, inv .few-refused), omega (arith, inv .few-rewritten, visit-flags _ _ _ _ (c .before .before .before .before .before .visit .ensures .0)))
 
 -- the line is visited and counted, or it is clean and left out
 moves : (c : tie.Joined1 Inv-loop μ-loop)

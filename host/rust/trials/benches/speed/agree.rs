@@ -3,9 +3,11 @@ use std::collections::{BTreeMap, BTreeSet};
 
 use lemtskavo::ffi::{RankCalled, Record};
 use lemtskavo::{LINE_LIMIT, memory_bytes};
+use lemtskavo_trials::arguments::other_chip;
+use lemtskavo_trials::bad_row::{enough, other_lines};
 use lemtskavo_trials::model::code::Status;
 use lemtskavo_trials::model::device;
-use lemtskavo_trials::patterns::random_bits;
+use lemtskavo_trials::patterns::{random_bits, random_with};
 use lemtskavo_trials::random::Random;
 
 use crate::patterns::{beyond_mending, codeword, not_codeword};
@@ -14,23 +16,24 @@ use crate::sides::{Fast, Library, Side};
 pub(crate) fn agree(calls: u32) {
     let mut random = Random::new(0x9e37_79b9_7f4a_7c15);
     let mut seen = BTreeSet::new();
-    let mut three_passes = BTreeMap::new();
-    for lines in [0, 1, 3, 5, LINE_LIMIT as usize, LINE_LIMIT as usize + 1] {
+    let mut step_5 = BTreeMap::new();
+    for lines in [0, 1, 3, 5, 130, LINE_LIMIT as usize, LINE_LIMIT as usize + 1] {
         let mut pair = Pair::new(lines, &mut random);
         // Memories are compared after each call, so a large one gets few; without a rank every call is refused with 12.
-        for _ in 0..if (1..=5).contains(&lines) { calls / 3 } else { 200 } {
+        for _ in 0..if (1..=130).contains(&lines) { calls / 4 } else { 200 } {
             pair.call(&mut random);
         }
         seen.append(&mut pair.seen);
-        for (case, reads) in pair.three_passes {
-            *three_passes.entry(case).or_insert(0) += reads;
+        for (case, reads) in pair.step_5 {
+            *step_5.entry(case).or_insert(0) += reads;
         }
     }
     assert!(seen.iter().eq(&[0, 1, 2, 3, 4, 5, 11, 12, 13, 14, 20, 21, 31]), "only refusals {seen:?} came up");
-    // None, one, and two or more chips beyond mending: these are all the cases that there are.
-    let cases = three_passes.keys().eq(&[(0, 0), (0, 21), (1, 0), (2, 21)]);
-    assert!(cases && three_passes.values().all(|reads| *reads >= 100), "reads of three passes were {three_passes:?}");
-    println!("Library and safe Rust agree on {calls} random calls, with every refusal and every case of pass three among them.");
+    // None, one, and two or more chips beyond mending; with none the row is diagnosed, if it has another line and the words don't xor to
+    // zero: these are all the cases that there are.
+    let cases = [(0, 0, false), (0, 0, true), (0, 21, false), (0, 21, true), (1, 0, false), (2, 21, false)];
+    assert!(step_5.keys().eq(&cases) && step_5.values().all(|reads| *reads >= 100), "reads that came to step 5 were {step_5:?}");
+    println!("Library and safe Rust agree on {calls} random calls, with every refusal and every case of step 5 among them.");
 }
 
 /// One record, and a memory for each side.
@@ -39,8 +42,8 @@ struct Pair {
     library: Vec<u8>,
     fast: Vec<u8>,
     seen: BTreeSet<u32>,
-    /// Reads of three passes by the chips beyond mending, 2 for two or more, and the refusal.
-    three_passes: BTreeMap<(usize, u32), u32>,
+    /// Reads that came to step 5 by the chips beyond mending, 2 for two or more, the refusal, and whether the row was diagnosed.
+    step_5: BTreeMap<(usize, u32, bool), u32>,
 }
 
 /// One in sixteen is not so long: a byte more or less.
@@ -58,7 +61,7 @@ impl Pair {
     fn new(lines: usize, random: &mut Random) -> Pair {
         let memory = vec![0xa5; memory_bytes(lines)];
         let rank = Library::boot(&mut [], &[]).rank;
-        let mut pair = Pair { rank, library: memory.clone(), fast: memory, seen: BTreeSet::new(), three_passes: BTreeMap::new() };
+        let mut pair = Pair { rank, library: memory.clone(), fast: memory, seen: BTreeSet::new(), step_5: BTreeMap::new() };
         pair.boot(random);
         while pair.rank.lines == 0 && (1..=LINE_LIMIT as usize).contains(&lines) {
             pair.boot(random);
@@ -74,6 +77,7 @@ impl Pair {
             0 if random.below(8) == 0 => self.boot(random),
             0 | 1 => self.renew(rank, random),
             2..=4 => self.write(rank, line, random),
+            5 if random.below(4) == 0 => self.bad_row(line, random),
             5..=9 => self.fault(rank, line, random),
             10..=13 => self.read(rank, task, line, random),
             _ => self.patrol(rank, task, line, random),
@@ -109,9 +113,27 @@ impl Pair {
         };
         let mut pattern = pattern.to_vec();
         pattern.resize(length(9, random), 0);
-        let a = Library::fault(rank, &mut self.library, line, chip, &pattern);
-        let b = Fast::fault(rank, &mut self.fast, line, chip, &pattern);
+        self.fault_by(rank, line, chip, &pattern);
+    }
+
+    fn fault_by(&mut self, rank: Record, line: u32, chip: u32, pattern: &[u8]) {
+        let a = Library::fault(rank, &mut self.library, line, chip, pattern);
+        let b = Fast::fault(rank, &mut self.fast, line, chip, pattern);
         self.keep_called(rank, a, b);
+    }
+
+    /// Damages one chip in some lines of a row, about as many as are enough to blame it, and reads one that its own bytes leave undecided.
+    fn bad_row(&mut self, wanted: u32, random: &mut Random) {
+        let (rank, chip) = (self.rank, random.number(9));
+        let others = other_lines(wanted, rank.lines);
+        for line in &others {
+            if random.below(others.len()) <= enough(others.len()) {
+                self.fault_by(rank, *line, chip, &not_codeword(random));
+            }
+        }
+        self.fault_by(rank, wanted, chip, &random_with(Status::Mended, random));
+        self.fault_by(rank, wanted, other_chip(chip, random), &random_bits(random, 1));
+        self.read(rank, 0, wanted, random);
     }
 
     fn read(&mut self, rank: Record, task: u32, line: u32, random: &mut Random) {
@@ -121,8 +143,8 @@ impl Pair {
         let a = Library::read(rank, &mut self.library, task, line, &mut p);
         let b = Fast::read(rank, &mut self.fast, task, line, &mut q);
         self.keep(rank, a == b && p == q, a.refusal, a.rank);
-        if a.passes == 3 {
-            *self.three_passes.entry((beyond.min(2), a.refusal)).or_insert(0) += 1;
+        if a.passes >= 3 {
+            *self.step_5.entry((beyond.min(2), a.refusal, a.passes > 3)).or_insert(0) += 1;
         }
     }
 

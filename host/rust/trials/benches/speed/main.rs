@@ -12,8 +12,8 @@ use std::ops::Range;
 
 use lemtskavo::memory_bytes;
 use lemtskavo_trials::arguments::other_chip;
-use lemtskavo_trials::model::code::Cell;
-use lemtskavo_trials::patterns::random_bits;
+use lemtskavo_trials::model::code::{Cell, Status};
+use lemtskavo_trials::patterns::{random_bits, random_with};
 use lemtskavo_trials::random::Random;
 
 use agree::agree;
@@ -24,6 +24,8 @@ use timing::{Booted, bytes_of, timed, timed_copy};
 const ROUNDS: u32 = 401;
 /// The lines of one timing: few, so that most timings run without being interrupted. Rounds take the parts of a rank in turn.
 const PART: u32 = 4_096;
+/// The lines of a row.
+const ROW: u32 = 128;
 /// The task of all timed visits.
 const TASK: u32 = 0;
 /// Position 71 of a chip's nine bytes, bit 63 of its word. The library finds it in the last of its nine steps.
@@ -36,8 +38,8 @@ fn main() {
     }
     print_machine();
     println!("Nanoseconds, medians of {ROUNDS} rounds of {PART} lines, visited in order.\n");
-    println!("| {:<35} | {:>6} | {:>7} | {:>9} | {:>5} | {:>17} |", "", "N", "library", "safe Rust", "copy", "library/safe Rust");
-    println!("|{:-<37}|{:->7}:|{:->8}:|{:->10}:|{:->6}:|{:->18}:|", "", "", "", "", "", "");
+    println!("| {:<35} | {:>6} | {:>7} | {:>9} | {:>6} | {:>17} |", "", "N", "library", "safe Rust", "copy", "library/safe Rust");
+    println!("|{:-<37}|{:->7}:|{:->8}:|{:->10}:|{:->7}:|{:->18}:|", "", "", "", "", "", "");
     for lines in [4_096, 65_536] {
         let mut bench = Bench::new(lines);
         for work in WORKS {
@@ -55,12 +57,23 @@ enum Work {
     Mend,
     MendLast,
     MendAndRebuild,
+    Diagnose,
     Boot,
     Refused,
 }
 
-const WORKS: [Work; 9] =
-    [Work::Read, Work::Write, Work::Patrol, Work::Rebuild, Work::Mend, Work::MendLast, Work::MendAndRebuild, Work::Boot, Work::Refused];
+const WORKS: [Work; 10] = [
+    Work::Read,
+    Work::Write,
+    Work::Patrol,
+    Work::Rebuild,
+    Work::Mend,
+    Work::MendLast,
+    Work::MendAndRebuild,
+    Work::Diagnose,
+    Work::Boot,
+    Work::Refused,
+];
 
 impl Work {
     fn name(self) -> &'static str {
@@ -72,6 +85,7 @@ impl Work {
             Work::Mend => "read that mends a bit in two chips",
             Work::MendLast => "read that mends bit 63 in two chips",
             Work::MendAndRebuild => "read that rebuilds one of two chips",
+            Work::Diagnose => "read that diagnoses a clean row, 21",
             Work::Boot => "boot, per line",
             Work::Refused => "refused call (renew of chip 9)",
         }
@@ -117,24 +131,31 @@ impl Bench {
             fast.push(b);
             copy.push(timed_copy(work, &mut self.plain, part));
             ratios.push(a / b);
+            if work == Work::Diagnose {
+                // A refused line keeps its damage, which the same again takes back.
+                lay_faults::<Library>(&mut self.library, &damage);
+                lay_faults::<Fast>(&mut self.fast, &damage);
+            }
         }
         let (library, fast, copy, ratio) = (median(library), median(fast), median(copy), median(ratios));
-        println!("| {:<35} | {:>6} | {library:>7.1} | {fast:>9.1} | {copy:>5.1} | {ratio:>17.2} |", work.name(), self.lines);
+        println!("| {:<35} | {:>6} | {library:>7.1} | {fast:>9.1} | {copy:>6.1} | {ratio:>17.2} |", work.name(), self.lines);
     }
 
-    /// The faults of one round, the same for both sides: every line of the part has them.
+    /// The faults of one round, the same for both sides: every line of the part has them, or the first of each row.
     fn damage(&mut self, work: Work, part: Range<u32>) -> Vec<Damage> {
         let mut list = vec![];
         for line in part {
             let chip = self.random.number(9);
             match work {
+                Work::Diagnose if line % ROW != 0 => {}
                 Work::Rebuild => list.push(Damage { line, chip, pattern: not_codeword(&mut self.random) }),
-                Work::Mend | Work::MendLast | Work::MendAndRebuild => {
+                Work::Mend | Work::MendLast | Work::MendAndRebuild | Work::Diagnose => {
                     let other = other_chip(chip, &mut self.random);
                     let random = &mut self.random;
                     let [first, second] = match work {
                         Work::Mend => [random_bits(random, 1), random_bits(random, 1)],
                         Work::MendLast => [LAST_BIT; 2],
+                        Work::Diagnose => [random_with(Status::Mended, random), random_bits(random, 1)],
                         _ => [beyond_mending(random), random_bits(random, 1)],
                     };
                     list.push(Damage { line, chip, pattern: first });

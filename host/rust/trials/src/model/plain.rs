@@ -1,5 +1,6 @@
 //! Document 01, "Plain memory": it knows neither record nor chips, and no catch-words. Of a task it only sees whether
-//! there is one of that number (document 02, Req 01). Of the chips' status it knows what its patterns show (Req 02).
+//! there is one of that number (document 02, Req 01). Of the chips' status it knows what its patterns show (Req 02), and of a row what the
+//! patterns of its other lines show (Req 04).
 use super::code::{self, Cell, Status};
 
 /// What it keeps for each line: 64 bytes and nine patterns, "all zero after boot".
@@ -30,31 +31,32 @@ impl Line {
         self.patterns.iter().filter(|pattern| weight(pattern) > 1).count()
     }
 
-    /// "Premise at each visit": "no pattern other than zero is a codeword, and at most one has more than one bit set".
+    /// Document 01's "premise at each visit": "no pattern other than zero is a codeword, and at most one has more than one bit set".
     pub fn premise(&self) -> bool {
         let codewords = self.patterns.iter().filter(|pattern| weight(pattern) > 0 && code::is_codeword(pattern)).count();
         codewords == 0 && self.beyond_one_bit() <= 1
     }
 
-    /// "Its one wide pattern is beyond mending" (Req 02). Wide is more than one bit set, and there must be just one such.
+    /// The chip with "its one wide pattern" (Req 02). Wide is more than one bit set, and there must be just one such.
+    fn wide(&self) -> Option<usize> {
+        let wide: Vec<usize> = (0..9).filter(|&chip| weight(&self.patterns[chip]) > 1).collect();
+        matches!(wide[..], [_]).then(|| wide[0])
+    }
+
+    /// "Its one wide pattern is beyond mending" (Req 02).
     pub fn one_wide_beyond_mending(&self) -> bool {
-        let wide: Vec<&Cell> = self.patterns.iter().filter(|pattern| weight(pattern) > 1).collect();
-        matches!(wide[..], [pattern] if code::status(pattern) == Status::Beyond)
+        self.wide().is_some_and(|chip| code::status(&self.patterns[chip]) == Status::Beyond)
     }
 
     /// "With 0 or 1 it answers; with more it answers if M of every pattern is the zero word", and "with several damaged chips also when its
     /// one wide pattern is beyond mending" (Req 02).
-    fn answers(&self) -> bool {
+    fn answers_alone(&self) -> bool {
         self.damaged() <= 1 || self.patterns.iter().all(|pattern| code::mended(pattern) == 0) || self.one_wide_beyond_mending()
     }
 
-    /// It answers, "else 21". "An answer clears the line's patterns."
-    fn visit(&mut self) -> Result<[u8; 64], u32> {
-        if !self.answers() {
-            return Err(21);
-        }
-        self.patterns = [[0; 9]; 9];
-        Ok(self.bytes)
+    /// Whether its row is diagnosed (Req 04): it does not answer alone, and has one wide pattern, so one that is not beyond mending.
+    pub fn asks_row(&self) -> bool {
+        !self.answers_alone() && self.wide().is_some()
     }
 
     /// "The nine codewords that a write of its 64 plain bytes lays there, each xored with its chip's pattern."
@@ -70,6 +72,46 @@ impl Plain {
     /// All that it gets of a boot is N.
     pub fn boot(lines: usize) -> Plain {
         Plain { lines: vec![Line { bytes: [0; 64], patterns: [[0; 9]; 9] }; lines] }
+    }
+
+    /// The other lines of a line's row: "128 lines from a multiple of 128; the last may be shorter" (Req 04).
+    fn others(&self, line: usize) -> Vec<&Line> {
+        let row = self.lines.chunks(128).nth(line / 128).unwrap();
+        let (before, after) = row.split_at(line % 128);
+        before.iter().chain(&after[1..]).collect()
+    }
+
+    /// The chip of a line that is blamed (Req 04): the plain memory "counts patterns that are no codewords" in the other lines.
+    fn blamed(&self, line: usize) -> Option<usize> {
+        let others = self.others(line);
+        let count = |chip: usize| others.iter().filter(|other| !code::is_codeword(&other.patterns[chip])).count();
+        let reaching: Vec<usize> = (0..9).filter(|&chip| 10 * count(chip) >= others.len()).collect();
+        match reaching[..] {
+            [chip] if !others.is_empty() && !code::is_codeword(&self.lines[line].patterns[chip]) => Some(chip),
+            _ => None,
+        }
+    }
+
+    /// The premise of a visit to a line: document 01's, and where its row is diagnosed (Req 04), that no chip but the one with the wide
+    /// pattern is blamed. This is less than document 02 asks, that no other reaches the mark.
+    pub fn premise(&self, line: usize) -> bool {
+        let wanted = &self.lines[line];
+        wanted.premise() && (!wanted.asks_row() || self.blamed(line).is_none_or(|chip| Some(chip) == wanted.wide()))
+    }
+
+    /// It "answers when that chip is blamed", the one with the wide pattern (Req 04).
+    pub fn answers(&self, line: usize) -> bool {
+        let wanted = &self.lines[line];
+        wanted.answers_alone() || wanted.asks_row() && self.blamed(line) == wanted.wide()
+    }
+
+    /// It answers, "else 21". "An answer clears the line's patterns."
+    pub fn visit(&mut self, line: usize) -> Result<[u8; 64], u32> {
+        if !self.answers(line) {
+            return Err(21);
+        }
+        self.lines[line].patterns = [[0; 9]; 9];
+        Ok(self.lines[line].bytes)
     }
 
     /// Refusal 31: "task not below 8", "tested after 14 and before 1" (Req 01).
@@ -93,11 +135,11 @@ impl Plain {
     /// "A read is one visit, and its answer is the 64 bytes." Refusals 31, 1, 2, 21.
     pub fn read(&mut self, task: u32, line: u32, buffer_length: usize) -> Result<[u8; 64], u32> {
         Plain::task(task)?;
-        let line = self.line(line)?;
+        self.line(line)?;
         if buffer_length != 64 {
             return Err(2);
         }
-        line.visit()
+        self.visit(line as usize)
     }
 
     /// The lines that a patrol would visit: "min(budget, N − first)" from first upwards. Refusals 31, 1.
@@ -115,7 +157,7 @@ impl Plain {
         let (mut visited, mut refused) = (0, 0);
         for line in self.patrolled(task, first, budget)? {
             visited += 1;
-            if self.lines[line].visit().is_err() {
+            if self.visit(line).is_err() {
                 refused += 1;
             }
         }

@@ -89,12 +89,23 @@ fn note_total(task: usize, before: &Record, after: &Record, tally: &mut Tally) {
     }
 }
 
-/// Counts reads that document 01 without Req 02 answers or refuses otherwise.
-pub(crate) fn note_req_02(without: Option<(Outcome, Vec<u8>)>, refusal: u32, tally: &mut Tally) {
-    match (without.map(|(former, _)| former.refusal), refusal) {
-        (Some(21), 0) => tally.case("answered read that document 01 refuses 21 without Req 02"),
-        (Some(0), 21) => tally.case("read refused 21 that document 01 answers without Req 02"),
+/// Counts reads that Req 02 answers or refuses otherwise than document 01, by their refusals.
+pub(crate) fn note_req_02(document_01: u32, req_02: u32, tally: &mut Tally) {
+    match (document_01, req_02) {
+        (21, 0) => tally.case("answered read that document 01 refuses 21 without Req 02"),
+        (0, 21) => tally.case("read refused 21 that document 01 answers without Req 02"),
         _ => {}
+    }
+}
+
+/// Req 04 answers what was answered without it in every byte and field, and changes no refusal but 21. Counts reads that only it answers.
+pub(crate) fn note_req_04(without: &(Outcome, Vec<u8>), read: &Outcome, memory: &[u8], tally: &mut Tally) {
+    let (former, kept) = without;
+    match (former.refusal, read.refusal) {
+        (21, 0) => tally.case("answered read that is refused 21 without Req 04"),
+        // The passes are others.
+        (21, 21) => assert_eq!((&former.record, &former.counts[1..], &kept[..]), (&read.record, &read.counts[1..], memory)),
+        _ => assert!(former == read && kept == memory, "{read:?}\nis {former:?} without Req 04"),
     }
 }
 

@@ -81,11 +81,12 @@ fn refused_visits_move_nothing(twin: &Twin, chip: usize, tally: &mut Tally) {
     assert_eq!(codeword.read(0, tally), refused(20, 2, 0));
 
     // Words that don't xor to zero though each is mended, and two chips beyond mending.
-    for (first, second) in [(CHECK_07, one_bit(0)), ([0xFF; 9], CHECK_03)] {
+    // The first of them asks the three other lines.
+    for (first, second, passes) in [(CHECK_07, one_bit(0), 3 + 2 * 3), ([0xFF; 9], CHECK_03, 3)] {
         let mut lost = twin.clone();
         lost.fault(0, one, &first, tally);
         lost.fault(0, two, &second, tally);
-        assert_eq!(lost.read(0, tally), refused(21, 3, 1 << one | 1 << two));
+        assert_eq!(lost.read(0, tally), refused(21, passes, 1 << one | 1 << two));
     }
 }
 

@@ -1,14 +1,16 @@
 //! One random fault list on both sides. Its calls have wrong arguments and broken states at times.
 use lemtskavo_trials::arguments::Arguments;
+use lemtskavo_trials::bad_row::BadRows;
 use lemtskavo_trials::call::Call;
-use lemtskavo_trials::model::{code, device};
+use lemtskavo_trials::model::code;
+use lemtskavo_trials::model::device::{self, Step5};
 use lemtskavo_trials::patterns::{random_bits, random_check, xor};
 use lemtskavo_trials::random::Random;
 use lemtskavo_trials::tally::Tally;
 use lemtskavo_trials::twin::Twin;
 use lemtskavo_trials::words::{self, STEP, data_of, palette};
 
-use crate::cases::{Seen, note_far_task, note_req_02};
+use crate::cases::{Seen, note_far_task, note_req_02, note_req_04};
 
 /// Ranks with more lines are not patrolled whole, since the model takes its time.
 const PATROLLED_WHOLE: u32 = 4_097;
@@ -19,6 +21,7 @@ pub(crate) struct List {
     /// Words that data and catch-words are both taken from, so that they often meet.
     palette: [u64; 10],
     arguments: Arguments,
+    bad_rows: BadRows,
     seen: Seen,
 }
 
@@ -43,7 +46,7 @@ impl List {
             twin.set_memory(random.bytes(81 * lines));
             seen.written.clear();
         }
-        List { random, twin, palette, arguments, seen }
+        List { random, twin, palette, arguments, bad_rows: BadRows::new(2), seen }
     }
 
     /// Data words that often equal the chip's catch-word or its complement, chip 8's among them.
@@ -139,6 +142,9 @@ impl List {
     }
 
     fn next(&mut self) -> Call {
+        if let Some(call) = self.bad_rows.next(&self.arguments, &mut self.random) {
+            return call;
+        }
         match self.random.below(100) {
             0..=37 => self.fault(),
             38..=67 => self.arguments.read(&mut self.random),
@@ -152,17 +158,21 @@ impl List {
     pub(crate) fn step(&mut self, tally: &mut Tally) {
         let call = self.next();
         let before = self.twin.record();
-        if self.random.chance(18) {
+        // Calls of a bad row are all made, or it would not be one.
+        if !self.bad_rows.is_under_way() && self.random.chance(18) {
             let mut broken = self.twin.clone();
             break_state(&mut broken, &mut self.random);
             let refusal = broken.call(&call, tally).refusal;
             note_far_task(&call, before.lines, refusal, tally);
             return;
         }
-        let without_req_02 = self.twin.without_req_02(&call);
+        let [document_01, req_02] = [Step5::Document01, Step5::Req02].map(|by| self.twin.read_by(by, &call));
         let outcome = self.twin.call(&call, tally);
         note_far_task(&call, before.lines, outcome.refusal, tally);
-        note_req_02(without_req_02, outcome.refusal, tally);
+        if let (Some((document_01, _)), Some(req_02)) = (document_01, req_02) {
+            note_req_02(document_01.refusal, req_02.0.refusal, tally);
+            note_req_04(&req_02, &outcome, &self.twin.model, tally);
+        }
         self.seen.note(&call, &before, &outcome, tally);
     }
 }

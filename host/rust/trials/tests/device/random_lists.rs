@@ -1,4 +1,5 @@
 //! Random fault lists: every refusal of every call, and every case that the lists are there for.
+use lemtskavo_trials::bad_row::RANKS;
 use lemtskavo_trials::call::Kind;
 use lemtskavo_trials::random::Random;
 use lemtskavo_trials::tally::{STEP_5, Tally};
@@ -47,6 +48,7 @@ fn random_lists_agree() {
         "patrol with refused lines",
         "answered read that document 01 refuses 21 without Req 02",
         "read refused 21 that document 01 answers without Req 02",
+        "answered read that is refused 21 without Req 04",
         "repair total reaches 4,294,967,295",
         "repair at a total of 4,294,967,295",
         "repair counted beside a total of 4,294,967,295",
@@ -59,4 +61,19 @@ fn random_lists_agree() {
     ];
     tally.demand(&cases, 100);
     tally.demand(&STEP_5, 500);
+}
+
+#[test]
+fn random_lists_on_rows_agree() {
+    let mut tally = Tally::new("random lists on rows");
+    tally.lists(0..1_000, |mut random, tally| {
+        let lines = random.pick(&RANKS);
+        let mut list = List::new(random, lines, tally);
+        for _ in 0..200 {
+            list.step(tally);
+        }
+    });
+    tally.print();
+    tally.demand(&["answered read that is refused 21 without Req 04", "patrol with refused lines"], 100);
+    tally.demand(&STEP_5, 100);
 }

@@ -46,7 +46,7 @@ fn the_widest_rank() {
     // Catch-word 0 meets the cleared words: it moves at the first line visited and meets no other.
     twin.renew(3, 0, &mut tally);
     assert_eq!(twin.patrol(1, 65_535, &mut tally).record.catch_words[3], STEP);
-    lists_on(65_536, 4, 80, &mut tally);
+    lists_on(65_536, 8, 100, &mut tally);
     tally.print();
     tally.demand(&["answered read, one flagged"], 5);
 }
@@ -63,7 +63,7 @@ fn a_rank_of_4097_lines() {
     assert_eq!(twin.read(4_097, &mut tally).refusal, 1);
     assert_eq!(twin.patrol(4_096, 2, &mut tally).counts, [1, 0, 0]);
     assert_eq!(twin.patrol(0, u32::MAX, &mut tally).counts, [4_097, 0, 0]);
-    lists_on(4_097, 120, 60, &mut tally);
+    lists_on(4_097, 240, 60, &mut tally);
     tally.print();
     let cases = ["answered read, one flagged", "answered read, collision in a data chip", "damage on a line repaired before"];
     tally.demand(&cases, 50);

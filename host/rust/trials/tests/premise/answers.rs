@@ -38,7 +38,7 @@ fn compared(call: &Call, outcome: &Outcome) -> Answer {
     }
 }
 
-/// The lines that a call would visit. A visit changes only its own line, so all can be tested before the call.
+/// The lines that a call would visit.
 pub(crate) fn visited(call: &Call, plain: &Plain) -> Vec<usize> {
     match call {
         Call::Read { task: 0..8, line, buffer } if (*line as usize) < plain.lines.len() && buffer.len() == 64 => vec![*line as usize],
@@ -47,9 +47,30 @@ pub(crate) fn visited(call: &Call, plain: &Plain) -> Vec<usize> {
     }
 }
 
+/// Goes through the visits of a call, each with the plain memory as it is just before it: a repair takes away what later ones would count.
+pub(crate) fn each_visit(call: &Call, plain: &Plain, mut note: impl FnMut(&Plain, usize)) {
+    let lines = visited(call, plain);
+    if let [line] = lines[..] {
+        return note(plain, line);
+    }
+    let mut plain = plain.clone();
+    for line in lines {
+        note(&plain, line);
+        // A refusal changes nothing.
+        _ = plain.visit(line);
+    }
+}
+
+/// The first line of which the call's visit would break the premise.
+pub(crate) fn outside_premise(call: &Call, plain: &Plain) -> Option<usize> {
+    let mut outside = None;
+    each_visit(call, plain, |plain, line| outside = outside.or_else(|| (!plain.premise(line)).then_some(line)));
+    outside
+}
+
 /// A call that is under the premise by the way its list is made, with the plain memory's answer.
 pub(crate) fn under_premise(call: Call, plain: &mut Plain) -> (Call, Answer) {
-    assert!(visited(&call, plain).into_iter().all(|line| plain.lines[line].premise()), "{call:?} breaks the premise");
+    assert_eq!(outside_premise(&call, plain), None, "{call:?} breaks the premise");
     let answer = on_plain(&call, plain);
     (call, answer)
 }

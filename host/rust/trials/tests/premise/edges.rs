@@ -1,9 +1,9 @@
 //! The edge of the premise: every position of the code, and every set of damaged chips.
 use lemtskavo_trials::arguments::other_chip;
 use lemtskavo_trials::call::{Call, Kind};
-use lemtskavo_trials::model::code::{self, Cell, Status};
+use lemtskavo_trials::model::code::{Cell, Status};
 use lemtskavo_trials::model::plain::Plain;
-use lemtskavo_trials::patterns::{CHECK_03, CHECK_07, WORD_300, one_bit, random_bits, xor};
+use lemtskavo_trials::patterns::{CHECK_03, CHECK_07, WORD_300, one_bit, random_bits, random_with, xor};
 use lemtskavo_trials::random::Random;
 use lemtskavo_trials::tally::{STEP_5, Tally};
 
@@ -41,16 +41,6 @@ impl OneLine {
     }
 }
 
-/// A random pattern whose chip tells this.
-fn pattern_with(status: Status, random: &mut Random) -> Cell {
-    loop {
-        let pattern = random.array();
-        if code::status(&pattern) == status {
-            return pattern;
-        }
-    }
-}
-
 /// Each position of the code in each chip: alone, beside one bit in another chip, and beside many bits of both kinds.
 #[test]
 fn every_position_at_the_edge_of_the_premise() {
@@ -60,8 +50,8 @@ fn every_position_at_the_edge_of_the_premise() {
         let mut line = OneLine::new();
         for position in 0..72 {
             let other = other_chip(chip, &mut random);
-            let beyond = pattern_with(Status::Beyond, &mut random);
-            let mended = pattern_with(Status::Mended, &mut random);
+            let beyond = random_with(Status::Beyond, &mut random);
+            let mended = random_with(Status::Mended, &mut random);
             let task = position as u32 % 8;
             line.write(&mut random);
             line.fault(chip, one_bit(position));

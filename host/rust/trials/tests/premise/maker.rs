@@ -1,5 +1,6 @@
 //! Random lists under the premise, made against the plain memory alone, so that one can run under any catch-words.
 use lemtskavo_trials::arguments::Arguments;
+use lemtskavo_trials::bad_row::BadRows;
 use lemtskavo_trials::call::Call;
 use lemtskavo_trials::model::code::{self, Cell};
 use lemtskavo_trials::model::plain::{Plain, weight};
@@ -8,7 +9,7 @@ use lemtskavo_trials::random::Random;
 use lemtskavo_trials::tally::Tally;
 use lemtskavo_trials::words::{STEP, data_of, palette};
 
-use crate::answers::{Answer, on_plain, visited};
+use crate::answers::{Answer, each_visit, on_plain, outside_premise};
 
 pub(crate) struct Maker {
     pub(crate) random: Random,
@@ -18,12 +19,14 @@ pub(crate) struct Maker {
     arguments: Arguments,
     /// Lines whose damage has been outside the premise since the last visit or write.
     strayed: Vec<bool>,
+    bad_rows: BadRows,
 }
 
 impl Maker {
     pub(crate) fn new(mut random: Random, lines: usize) -> Maker {
         let palette = palette(&mut random);
-        Maker { random, plain: Plain::boot(lines), palette, arguments: Arguments::new(lines, 5), strayed: vec![false; lines] }
+        let arguments = Arguments::new(lines, 5);
+        Maker { random, plain: Plain::boot(lines), palette, arguments, strayed: vec![false; lines], bad_rows: BadRows::new(6) }
     }
 
     /// Catch-words to boot with, of several kinds: free ones, those of cleared memory, and those of data.
@@ -108,6 +111,9 @@ impl Maker {
     }
 
     fn any(&mut self) -> Call {
+        if let Some(call) = self.bad_rows.next(&self.arguments, &mut self.random) {
+            return call;
+        }
         match self.random.below(100) {
             0..=39 => self.fault(),
             40..=46 => self.way_back().unwrap_or(Call::Patrol { task: 0, first: 0, budget: 0 }),
@@ -120,14 +126,23 @@ impl Maker {
 
     /// A call under the premise, with the plain memory's answer.
     pub(crate) fn next(&mut self, tally: &mut Tally) -> (Call, Answer) {
-        let mut call = self.any();
-        if let Some(line) = visited(&call, &self.plain).into_iter().find(|line| !self.plain.lines[*line].premise()) {
-            tally.case("call left out, its visit would break the premise");
+        let call = self.any();
+        self.kept(call, tally)
+    }
+
+    /// The call, or a write in its place if it would break the premise, with the plain memory's answer.
+    pub(crate) fn kept(&mut self, mut call: Call, tally: &mut Tally) -> (Call, Answer) {
+        if let Some(line) = outside_premise(&call, &self.plain) {
+            let own = !self.plain.lines[line].premise();
+            tally.case(if own {
+                "call left out, its visit would break the premise"
+            } else {
+                "call left out, another chip would be blamed"
+            });
             call = Call::Write { line: line as u32, data: self.random.bytes(64) };
         }
-        for line in visited(&call, &self.plain) {
-            self.note_visit(line, tally);
-        }
+        let Maker { plain, strayed, .. } = self;
+        each_visit(&call, plain, |plain, line| note_visit(plain, line, &mut strayed[line], tally));
         let answer = on_plain(&call, &mut self.plain);
         self.note(&call, &answer, tally);
         (call, answer)
@@ -146,19 +161,22 @@ impl Maker {
             _ => {}
         }
     }
+}
 
-    /// Counts how near the premise's edge a visit is.
-    fn note_visit(&mut self, line: usize, tally: &mut Tally) {
-        let damage = &self.plain.lines[line];
-        if damage.beyond_one_bit() == 1 && damage.damaged() > 1 {
-            tally.case(if damage.one_wide_beyond_mending() {
-                "visit with many bits in one chip, beyond mending, and one bit in others"
-            } else {
-                "visit with many bits in one chip, mended as one, and one bit in others"
-            });
-        }
-        if std::mem::take(&mut self.strayed[line]) {
-            tally.case("visit of a line that was outside the premise in between");
-        }
+/// Counts how near the premise's edge a visit is.
+fn note_visit(plain: &Plain, line: usize, strayed: &mut bool, tally: &mut Tally) {
+    let damage = &plain.lines[line];
+    if damage.beyond_one_bit() == 1 && damage.damaged() > 1 {
+        tally.case(if damage.one_wide_beyond_mending() {
+            "visit with many bits in one chip, beyond mending, and one bit in others"
+        } else {
+            "visit with many bits in one chip, mended as one, and one bit in others"
+        });
+    }
+    if damage.asks_row() {
+        tally.case(if plain.answers(line) { "visit that diagnoses the row, answered" } else { "visit that diagnoses the row, refused" });
+    }
+    if std::mem::take(strayed) {
+        tally.case("visit of a line that was outside the premise in between");
     }
 }

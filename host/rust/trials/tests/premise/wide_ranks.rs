@@ -4,7 +4,7 @@ use lemtskavo_trials::patterns::{CHECK_07, WORD_300, random_bits};
 use lemtskavo_trials::random::Random;
 use lemtskavo_trials::tally::{STEP_5, Tally};
 
-use crate::answers::{run, under_premise};
+use crate::answers::run;
 use crate::maker::Maker;
 
 /// Calls on the last line and the one after it, for a task and for numbers that are none.
@@ -34,8 +34,9 @@ fn wide_list(lines: usize, random: Random, tally: &mut Tally) {
     let mut maker = Maker::new(random, lines);
     let mut list = Vec::new();
     for round in 0..8 {
+        // A bad row, which the random calls have made, can keep a visit of the last line outside the premise.
         for call in calls_on_the_last_line(round, &mut maker) {
-            list.push(under_premise(call, &mut maker.plain));
+            list.push(maker.kept(call, tally));
         }
         list.extend((0..20).map(|_| maker.next(tally)));
     }

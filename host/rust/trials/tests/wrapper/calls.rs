@@ -110,13 +110,13 @@ fn a_refused_read_carries_its_visit() {
     rank.renew(4, CATCH_WORD).unwrap();
     assert_eq!(state(&rank), given);
 
-    // Chip 0 inverts a bit of its word that is right; then chips 0 and 8 are both beyond mending.
-    for (zero, eight) in [("000000000000000007", "000000000000000001"), ("ffffffffffffffffff", "000000000000000003")] {
+    // Chip 0 inverts a bit of its word that is right, and the other line blames none; then chips 0 and 8 are both beyond mending.
+    for (zero, eight, passes) in [("000000000000000007", "000000000000000001", 5), ("ffffffffffffffffff", "000000000000000003", 3)] {
         rank.write(1, &[0x33; 64]).unwrap();
         rank.fault(1, 0, &pattern(zero)).unwrap();
         rank.fault(1, 8, &pattern(eight)).unwrap();
         let given = state(&rank);
-        let visit = Visit { passes: 3, flagged: 0x101, collisions: 0 };
+        let visit = Visit { passes, flagged: 0x101, collisions: 0 };
         assert_eq!(rank.read(TASK, 1), Err(RefusedRead { refusal: Refusal::Uncorrectable, visit }));
         assert_eq!(state(&rank), given);
     }
@@ -132,6 +132,20 @@ fn one_chip_beyond_mending_beside_one_bit_is_answered() {
     rank.fault(0, 8, &pattern("000000000000000001")).unwrap();
     assert_eq!(rank.read(TASK, 0), Ok(Read { data: [0x44; 64], visit: Visit { passes: 3, flagged: 0x101, collisions: 0 } }));
     assert_eq!(rank.memory(), written);
+    assert_eq!(rank.repairs(), [2, 0, 0, 0, 0, 0, 0, 0]);
+}
+
+#[test]
+fn a_chip_that_the_row_blames_is_answered() {
+    let mut memory = memory(3);
+    let mut rank = boot(&mut memory);
+    rank.write(0, &[0x44; 64]).unwrap();
+    rank.fault(0, 0, &pattern("000000000000000007")).unwrap();
+    rank.fault(0, 8, &pattern("000000000000000001")).unwrap();
+    let visit = Visit { passes: 7, flagged: 0x101, collisions: 0 };
+    assert_eq!(rank.read(TASK, 0), Err(RefusedRead { refusal: Refusal::Uncorrectable, visit }));
+    rank.fault(2, 0, &pattern("000000000000000001")).unwrap();
+    assert_eq!(rank.read(TASK, 0), Ok(Read { data: [0x44; 64], visit }));
     assert_eq!(rank.repairs(), [2, 0, 0, 0, 0, 0, 0, 0]);
 }
 

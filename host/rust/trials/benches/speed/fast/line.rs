@@ -1,4 +1,4 @@
-//! One line of the memory: its words, the test for a clean line, and the visit to one that is not.
+//! One line of the memory: its words, the test for a clean line, the visit to one that is not, and the repair after its row was diagnosed.
 use lemtskavo::LINE_BYTES;
 
 use super::lanes::{check_byte, check_bytes, syndromes};
@@ -93,32 +93,124 @@ fn bytes_xor(bytes: u64) -> u8 {
     (bytes ^ bytes >> 8) as u8
 }
 
-/// What a visit went through.
+/// What a visit went through. Undecided: it is refused, unless the row blames a chip.
 #[derive(Clone, Copy)]
 pub(super) struct Visit {
+    pub(super) undecided: bool,
     pub(super) refusal: u32,
     pub(super) passes: u32,
     pub(super) flagged: u32,
     pub(super) collisions: u32,
 }
 
-/// A visit to a line that is not clean. An answered line is repaired.
+/// The syndromes of the nine chips: those of chips 0 to 7 in the bytes of a number, and that of chip 8.
+#[derive(Clone, Copy)]
+struct Syndromes {
+    eight: u64,
+    last: u8,
+}
+
+impl Syndromes {
+    /// From those of chips 0 to 7 in lanes, and the check byte of the xor of the nine words.
+    #[inline(always)]
+    fn new(line: &Line, lanes: [u64; 2], sum_asks: u8) -> Syndromes {
+        let eight = lanes[0] | lanes[1] << 8;
+        // The syndromes of all nine xor to that of the sums.
+        let checks_xor = (0..9).fold(0, |sum, k| sum ^ line[9 * k + 8]);
+        Syndromes { eight, last: bytes_xor(eight) ^ sum_asks ^ checks_xor }
+    }
+
+    #[inline(always)]
+    fn of_chip(self, chip: usize) -> u8 {
+        if chip == 8 { self.last } else { (self.eight >> (8 * chip)) as u8 }
+    }
+
+    #[inline(always)]
+    fn flagged(self) -> u32 {
+        nonzero_bytes(self.eight) | u32::from(self.last != 0) << 8
+    }
+}
+
+#[inline(always)]
+fn lanes_of(line: &Line) -> [u64; 2] {
+    let mut lanes = [0; 2];
+    syndromes(line, &mut lanes);
+    lanes
+}
+
+/// The chips that hold no codeword: in most lines none, and the mask is then not put together.
+#[inline(always)]
+pub(super) fn flagged_chips(line: &Line) -> u32 {
+    let lanes = lanes_of(line);
+    // Chip 8's by itself, since the xor of the nine words is not at hand.
+    let last = check_byte(word(line, 8)) ^ line[80];
+    if lanes == [0; 2] && last == 0 {
+        return 0;
+    }
+    Syndromes { eight: lanes[0] | lanes[1] << 8, last }.flagged()
+}
+
+/// What mending makes of the flagged chips: the change to each word, what is left of the xor of the nine words, the check byte of that, and
+/// the chips to be rebuilt from the others. A chip beyond mending sends its word as it is.
+struct Mending {
+    changes: [u64; 9],
+    left: u64,
+    left_asks: u8,
+    rebuilt: u32,
+}
+
+impl Mending {
+    #[inline(always)]
+    fn new(flagged: u32, syndromes: Syndromes, sum: u64, sum_asks: u8) -> Mending {
+        let mut mending = Mending { changes: [0; 9], left: sum, left_asks: sum_asks, rebuilt: 0 };
+        for chip in chips(flagged) {
+            let entry = MENDING[syndromes.of_chip(chip) as usize];
+            let is_beyond = entry == BEYOND;
+            mending.rebuilt |= u32::from(is_beyond) << chip;
+            mending.changes[chip] = if is_beyond { 0 } else { entry };
+            mending.take(chip, syndromes);
+        }
+        mending
+    }
+
+    /// Takes a chip's change into what is left, or out of it.
+    #[inline(always)]
+    fn take(&mut self, chip: usize, syndromes: Syndromes) {
+        self.left ^= self.changes[chip];
+        self.left_asks ^= if self.changes[chip] == 0 { 0 } else { syndromes.of_chip(chip) };
+    }
+
+    /// Writes the flagged chips back.
+    #[inline(always)]
+    fn write(&self, line: &mut Line, flagged: u32, syndromes: Syndromes) {
+        for chip in chips(flagged & !self.rebuilt) {
+            let change = self.changes[chip];
+            set_word(line, chip, word(line, chip) ^ change);
+            // With a bit of the word inverted the check byte is right; otherwise it is what makes the syndrome zero.
+            line[9 * chip + 8] ^= if change == 0 { syndromes.of_chip(chip) } else { 0 };
+        }
+        if self.rebuilt != 0 {
+            rebuild(line, self.rebuilt.trailing_zeros() as usize, syndromes, self.left, self.left_asks);
+        }
+    }
+}
+
+/// Rebuilds a chip by the xor of the nine words and the check byte of that xor.
+#[inline(always)]
+fn rebuild(line: &mut Line, chip: usize, syndromes: Syndromes, sum: u64, sum_asks: u8) {
+    set_word(line, chip, word(line, chip) ^ sum);
+    line[9 * chip + 8] ^= syndromes.of_chip(chip) ^ sum_asks;
+}
+
+/// A visit to a line that is not clean, by its own bytes. An answered line is repaired.
 #[inline(never)]
 pub(super) fn visit(line: &mut Line, catch_words: &[u64; 9], scanned: Scanned) -> Visit {
     let sum = scanned.sum;
     let sum_asks = check_byte(sum);
-    let lanes = scanned.syndromes.unwrap_or_else(|| {
-        let mut lanes = [0; 2];
-        syndromes(line, &mut lanes);
-        lanes
-    });
-    let eight = lanes[0] | lanes[1] << 8;
-    // The syndromes of all nine xor to that of the sums.
-    let checks_xor = (0..9).fold(0, |sum, k| sum ^ line[9 * k + 8]);
-    let last = bytes_xor(eight) ^ sum_asks ^ checks_xor;
-    let syndrome = |chip: usize| if chip == 8 { last } else { (eight >> (8 * chip)) as u8 };
+    let lanes = scanned.syndromes.unwrap_or_else(|| lanes_of(line));
+    let syndromes = Syndromes::new(line, lanes, sum_asks);
 
-    let flagged = nonzero_bytes(eight) | u32::from(last != 0) << 8;
+    let flagged = syndromes.flagged();
     let mut equal = 0;
     // Most lines have no such word, and the mask is then not put together.
     if (0..9).any(|k| equals_catch_word(line, catch_words, k)) {
@@ -127,45 +219,37 @@ pub(super) fn visit(line: &mut Line, catch_words: &[u64; 9], scanned: Scanned) -
         }
     }
     let collisions = equal & !flagged;
-    let report = |refusal, passes| Visit { refusal, passes, flagged, collisions };
+    let report = |refusal, passes| Visit { undecided: false, refusal, passes, flagged, collisions };
 
     if flagged == 0 {
         let passes = if collisions == 0 { 1 } else { 2 };
         return report(if sum == 0 { 0 } else { 20 }, passes);
     }
-    // A chip is rebuilt by the xor of the nine words and the check byte of that xor.
-    let rebuild = |line: &mut Line, chip: usize, sum: u64, sum_asks: u8| {
-        set_word(line, chip, word(line, chip) ^ sum);
-        line[9 * chip + 8] ^= syndrome(chip) ^ sum_asks;
-    };
     if flagged & (flagged - 1) == 0 {
-        rebuild(line, flagged.trailing_zeros() as usize, sum, sum_asks);
+        rebuild(line, flagged.trailing_zeros() as usize, syndromes, sum, sum_asks);
         return report(0, 2);
     }
-    // What mending changes, and what it leaves of the xor and of its check byte. A chip beyond mending sends its word as it is.
-    let mut changes = [0; 9];
-    let (mut left, mut left_asks, mut beyond) = (sum, sum_asks, 0);
-    for chip in chips(flagged) {
-        let entry = MENDING[syndrome(chip) as usize];
-        let is_beyond = entry == BEYOND;
-        let change = if is_beyond { 0 } else { entry };
-        beyond |= u32::from(is_beyond) << chip;
-        changes[chip] = change;
-        left ^= change;
-        left_asks ^= if change == 0 { 0 } else { syndrome(chip) };
-    }
-    if beyond & beyond.wrapping_sub(1) != 0 || beyond == 0 && left != 0 {
+    let mending = Mending::new(flagged, syndromes, sum, sum_asks);
+    if mending.rebuilt & mending.rebuilt.wrapping_sub(1) != 0 {
         return report(21, 3);
     }
-    for chip in chips(flagged & !beyond) {
-        set_word(line, chip, word(line, chip) ^ changes[chip]);
-        // With a bit of the word inverted the check byte is right; otherwise it is what makes the syndrome zero.
-        line[9 * chip + 8] ^= if changes[chip] == 0 { syndrome(chip) } else { 0 };
+    if mending.rebuilt == 0 && mending.left != 0 {
+        return Visit { undecided: true, ..report(21, 3) };
     }
-    if beyond != 0 {
-        rebuild(line, beyond.trailing_zeros() as usize, left, left_asks);
-    }
+    mending.write(line, flagged, syndromes);
     report(0, 3)
+}
+
+/// Repairs a line that was undecided: one chip is blamed, and the other flagged ones are mended.
+#[inline(never)]
+pub(super) fn repair(line: &mut Line, flagged: u32, blamed: u32) {
+    let sum = words_xor(line);
+    let sum_asks = check_byte(sum);
+    let syndromes = Syndromes::new(line, lanes_of(line), sum_asks);
+    let mut mending = Mending::new(flagged, syndromes, sum, sum_asks);
+    mending.take(blamed.trailing_zeros() as usize, syndromes);
+    mending.rebuilt = blamed;
+    mending.write(line, flagged, syndromes);
 }
 
 /// The chips of a mask, upwards.

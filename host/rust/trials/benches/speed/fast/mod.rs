@@ -9,10 +9,11 @@
 #![allow(improper_ctypes_definitions)]
 mod lanes;
 mod line;
+mod row;
 
 use lemtskavo::ffi::{RankCalled, RankPatrol, RankRead, Record};
 use lemtskavo::{LINE_BYTES, LINE_LIMIT};
-use line::{Scanned, Visit, chips, lay, line_of, rest_is_clean, take, visit, words_xor};
+use line::{Line, Scanned, Visit, chips, lay, line_of, repair, rest_is_clean, take, visit, words_xor};
 
 const STEP: u64 = 0x9e37_79b9_7f4a_7c15;
 const ZERO: Record = Record { lines: 0, enable: false, catch_words: [0; 9], registers: [0; 9], repairs: [0; 8] };
@@ -55,17 +56,21 @@ pub(super) extern "C" fn read(rank: Record, memory: &mut [u8], task: u32, line: 
     let Ok(buffer) = <&mut [u8; 64]>::try_from(buffer) else {
         return RankRead { refusal: 2, passes: 0, flagged: 0, collisions: 0, rank };
     };
-    let line = line_of(memory, line);
-    let mut scanned = Scanned { sum: words_xor(line), syndromes: None };
-    if scanned.sum == 0 && rest_is_clean(line, &rank.catch_words, &mut scanned) {
-        take(line, buffer);
+    let bytes = line_of(memory, line);
+    let mut scanned = Scanned { sum: words_xor(bytes), syndromes: None };
+    if scanned.sum == 0 && rest_is_clean(bytes, &rank.catch_words, &mut scanned) {
+        take(bytes, buffer);
         return RankRead { refusal: 0, passes: 1, flagged: 0, collisions: 0, rank };
     }
-    let Visit { refusal, passes, flagged, collisions } = visit(line, &rank.catch_words, scanned);
+    let mut visit = visit(bytes, &rank.catch_words, scanned);
+    if visit.undecided {
+        visit = decide(memory, rank.lines, line, visit);
+    }
+    let Visit { refusal, passes, flagged, collisions, .. } = visit;
     let mut answer = RankRead { refusal, passes, flagged, collisions, rank };
     if refusal == 0 {
         move_and_count(&mut answer.rank, task, flagged, collisions);
-        take(line, buffer);
+        take(line_of(memory, line), buffer);
     }
     answer
 }
@@ -79,21 +84,53 @@ pub(super) extern "C" fn patrol(rank: Record, memory: &mut [u8], task: u32, firs
     }
     let visited = budget.min(rank.lines - first);
     let mut answer = RankPatrol { refusal: 0, visited, refused: 0, rewritten: 0, rank };
-    let start = LINE_BYTES * first as usize;
-    for line in memory[start..start + LINE_BYTES * visited as usize].as_chunks_mut().0 {
+    let end = first + visited;
+    let mut next = first;
+    while next < end {
+        let lines = &mut memory[LINE_BYTES * next as usize..LINE_BYTES * end as usize];
+        let Some((passed, visit)) = sweep(lines.as_chunks_mut().0, task, &mut answer) else { break };
+        let line = next + passed as u32;
+        tally(&mut answer, task, decide(memory, rank.lines, line, visit));
+        next = line + 1;
+    }
+    answer
+}
+
+/// Visits lines up to the first that is undecided, and gives its place and its visit.
+#[inline(always)]
+fn sweep(lines: &mut [Line], task: u32, answer: &mut RankPatrol) -> Option<(usize, Visit)> {
+    for (place, line) in lines.iter_mut().enumerate() {
         let mut scanned = Scanned { sum: words_xor(line), syndromes: None };
         if scanned.sum == 0 && rest_is_clean(line, &answer.rank.catch_words, &mut scanned) {
             continue;
         }
         let visit = visit(line, &answer.rank.catch_words, scanned);
-        if visit.refusal != 0 {
-            answer.refused += 1;
-            continue;
+        if visit.undecided {
+            return Some((place, visit));
         }
-        answer.rewritten += visit.flagged.count_ones();
-        move_and_count(&mut answer.rank, task, visit.flagged, visit.collisions);
+        tally(answer, task, visit);
     }
-    answer
+    None
+}
+
+/// Adds a visit to a patrol's counts and does what it does to the record.
+#[inline(always)]
+fn tally(answer: &mut RankPatrol, task: u32, visit: Visit) {
+    if visit.refusal != 0 {
+        answer.refused += 1;
+        return;
+    }
+    answer.rewritten += visit.flagged.count_ones();
+    move_and_count(&mut answer.rank, task, visit.flagged, visit.collisions);
+}
+
+/// How the row decides an undecided visit. An answered line is repaired.
+fn decide(memory: &mut [u8], lines: u32, line: u32, visit: Visit) -> Visit {
+    let (blamed, others) = row::blamed(memory, lines, line, visit.flagged);
+    if blamed != 0 {
+        repair(line_of(memory, line), visit.flagged, blamed);
+    }
+    Visit { undecided: false, refusal: if blamed == 0 { 21 } else { 0 }, passes: visit.passes + 2 * others, ..visit }
 }
 
 /// Gives one chip a catch-word, in both copies.

@@ -1,14 +1,15 @@
-//! Document 01 without "Plain memory", with the tasks and the chips' status of document 02's Req 01 and Req 02: the record, the memory, the
-//! visit by its steps and the six calls.
+//! Document 01 without "Plain memory", with document 02's Req 01, Req 02 and Req 04: the record, the memory, the visit by its steps and the
+//! six calls.
 mod refusals;
+mod row;
 mod visit;
 
 use refusals::{
     first_met, first_met_after_state, no_chip, no_line, no_line_buffer, no_pattern, no_rank, no_task, not_nine, not_ready, registers_differ,
 };
-use visit::{AfterPassThree, document_01_step_5, lay, place, step_5, visit, xor};
+use visit::{lay, place, visit, xor};
 
-pub use visit::{held, statuses};
+pub use visit::{Step5, held, statuses};
 
 /// "Line L begins at byte 81 × L" ("The rank").
 const LINE: usize = 81;
@@ -91,20 +92,16 @@ pub fn write(record: Record, memory: &mut [u8], line: u32, data: &[u8]) -> Calle
 
 /// Read: "a visit that puts the line in a 64-byte buffer" ("The calls"), for a task (Req 01).
 pub fn read(record: Record, memory: &mut [u8], task: u32, line: u32, buffer: &mut [u8]) -> Read {
-    read_with(step_5, record, memory, task, line, buffer)
+    read_by(Step5::Req04, record, memory, task, line, buffer)
 }
 
-/// The same call with document 01's step 5, without Req 02, to compare with.
-pub fn read_without_req_02(record: Record, memory: &mut [u8], task: u32, line: u32, buffer: &mut [u8]) -> Read {
-    read_with(document_01_step_5, record, memory, task, line, buffer)
-}
-
-fn read_with(step_5: AfterPassThree, mut record: Record, memory: &mut [u8], task: u32, line: u32, buffer: &mut [u8]) -> Read {
+/// The same call by one of the forms that step 5 has had.
+pub fn read_by(by: Step5, mut record: Record, memory: &mut [u8], task: u32, line: u32, buffer: &mut [u8]) -> Read {
     let refusal = first_met_after_state(&record, memory, &[no_task(task), no_line(&record, line), no_line_buffer(buffer)]);
     if refusal != 0 {
         return Read { refusal, passes: 0, flagged: 0, collisions: 0, record };
     }
-    let visit = visit(step_5, &mut record, memory, task, line);
+    let visit = visit(by, &mut record, memory, task, line);
     let refusal = match visit.words {
         Ok(words) => {
             for chip in 0..8 {
@@ -126,7 +123,7 @@ pub fn patrol(record: Record, memory: &mut [u8], task: u32, first: u32, budget: 
         return patrol;
     }
     for line in first..first + budget.min(record.lines - first) {
-        let visit = visit(step_5, &mut patrol.record, memory, task, line);
+        let visit = visit(Step5::Req04, &mut patrol.record, memory, task, line);
         patrol.visited += 1;
         match visit.words {
             Ok(_) => patrol.rewritten += visit.flagged.count_ones(),

@@ -1,4 +1,5 @@
-//! Document 01, "A visit to a line", with the tasks and the chips' status of document 02's Req 01 and Req 02.
+//! Document 01, "A visit to a line", with the tasks, the chips' status and the row diagnosis of document 02's Req 01, Req 02 and Req 04.
+use super::row;
 use super::{LINE, Record};
 use crate::model::code::{self, Cell, Status};
 
@@ -44,7 +45,7 @@ pub fn statuses(memory: &[u8], line: u32) -> [Status; 9] {
     std::array::from_fn(|chip| code::status(&held(memory, line, chip)))
 }
 
-/// The words with that of one chip replaced by the xor of the other eight ("A visit to a line", step 4, and Req 02).
+/// The words with that of one chip replaced by the xor of the other eight ("A visit to a line", step 4, Req 02 and Req 04).
 fn rebuilt(mut words: [u64; 9], chip: usize) -> [u64; 9] {
     // Leaving a word out of the sum is the xor of the others.
     words[chip] = 0;
@@ -52,25 +53,44 @@ fn rebuilt(mut words: [u64; 9], chip: usize) -> [u64; 9] {
     words
 }
 
-/// Step 5 after pass three: the flagged chips, what the nine sent and their statuses. It gives the line's words, or 21.
-pub(super) type AfterPassThree = fn(u32, [u64; 9], [Status; 9]) -> Result<[u64; 9], u32>;
-
-/// "A visit to a line", step 5, by Req 02.
-pub(super) fn step_5(flagged: u32, sent: [u64; 9], statuses: [Status; 9]) -> Result<[u64; 9], u32> {
-    let beyond: Vec<usize> = (0..9).filter(|&chip| flagged >> chip & 1 == 1 && statuses[chip] == Status::Beyond).collect();
-    match beyond[..] {
-        // "If just one flagged chip is beyond mending, its word is the xor of the other eight."
-        [chip] => Ok(rebuilt(sent, chip)),
-        // "If two or more are, the visit is refused 21."
-        [_, _, ..] => Err(21),
-        // "Otherwise the words must xor to zero as before."
-        [] => document_01_step_5(flagged, sent, statuses),
-    }
+/// Step 5 as document 01 has it, or as a request of document 02 changed it: the former ones are there to compare with.
+#[derive(Clone, Copy, Debug, PartialEq, Eq, PartialOrd)]
+pub enum Step5 {
+    Document01,
+    Req02,
+    Req04,
 }
 
-/// "A visit to a line", step 5, as document 01 has it without Req 02: "The nine words sent must xor to zero, else 21."
-pub(super) fn document_01_step_5(_: u32, sent: [u64; 9], _: [Status; 9]) -> Result<[u64; 9], u32> {
-    if xor(&sent) == 0 { Ok(sent) } else { Err(21) }
+/// What passes one and two of a line give: the words of pass one, the passes made and the two masks ("A visit to a line", steps 1 and 2).
+pub(super) struct FirstTwo {
+    words: [u64; 9],
+    passes: u32,
+    pub(super) flagged: u32,
+    collisions: u32,
+}
+
+/// "A visit to a line", steps 1 and 2.
+pub(super) fn first_two(catch_words: &[u64; 9], memory: &[u8], line: u32) -> FirstTwo {
+    let complements = catch_words.map(|catch_word| !catch_word);
+
+    // Step 1.
+    let words = pass(true, catch_words, memory, line);
+    let candidates: Vec<usize> = (0..9).filter(|&chip| words[chip] == catch_words[chip]).collect();
+    let mut two = FirstTwo { words, passes: 1, flagged: 0, collisions: 0 };
+
+    // Step 2.
+    if !candidates.is_empty() {
+        two.passes = 2;
+        let second = pass(true, &complements, memory, line);
+        for chip in candidates {
+            if second[chip] == complements[chip] {
+                two.flagged |= 1 << chip;
+            } else {
+                two.collisions |= 1 << chip;
+            }
+        }
+    }
+    two
 }
 
 /// What a visit gives: the nine words of an answered line, or 20 or 21 ("A visit to a line").
@@ -82,46 +102,49 @@ pub(super) struct Visit {
 }
 
 /// "A visit to a line", steps 1 to 5. It changes neither record nor memory.
-fn look(step_5: AfterPassThree, record: &Record, memory: &[u8], line: u32) -> Visit {
-    let catch_words = record.catch_words;
-    let complements = catch_words.map(|catch_word| !catch_word);
-    let mut visit = Visit { passes: 1, flagged: 0, collisions: 0, words: Err(0) };
-
-    // Step 1.
-    let words = pass(true, &catch_words, memory, line);
-    let candidates: Vec<usize> = (0..9).filter(|&chip| words[chip] == catch_words[chip]).collect();
-
-    // Step 2.
-    if !candidates.is_empty() {
-        visit.passes = 2;
-        let second = pass(true, &complements, memory, line);
-        for chip in candidates {
-            if second[chip] == complements[chip] {
-                visit.flagged |= 1 << chip;
-            } else {
-                visit.collisions |= 1 << chip;
-            }
-        }
-    }
-
-    visit.words = match visit.flagged.count_ones() {
+fn look(by: Step5, record: &Record, memory: &[u8], line: u32) -> Visit {
+    let FirstTwo { words, passes, flagged, collisions } = first_two(&record.catch_words, memory, line);
+    let visit = |passes, words| Visit { passes, flagged, collisions, words };
+    match flagged.count_ones() {
         // Step 3.
-        0 if xor(&words) == 0 => Ok(words),
-        0 => Err(20),
+        0 if xor(&words) == 0 => visit(passes, Ok(words)),
+        0 => visit(passes, Err(20)),
         // Step 4.
-        1 => Ok(rebuilt(words, visit.flagged.trailing_zeros() as usize)),
+        1 => visit(passes, Ok(rebuilt(words, flagged.trailing_zeros() as usize))),
         // Step 5.
         _ => {
-            visit.passes = 3;
-            step_5(visit.flagged, pass(false, &catch_words, memory, line), statuses(memory, line))
+            let (more, words) = step_5(by, record, memory, line, flagged);
+            visit(3 + more, words)
         }
-    };
-    visit
+    }
+}
+
+/// "A visit to a line", step 5: the line's words, or 21, and the passes made after pass three.
+fn step_5(by: Step5, record: &Record, memory: &[u8], line: u32, flagged: u32) -> (u32, Result<[u64; 9], u32>) {
+    let sent = pass(false, &record.catch_words, memory, line);
+    let statuses = statuses(memory, line);
+    let beyond: Vec<usize> = (0..9).filter(|&chip| flagged >> chip & 1 == 1 && statuses[chip] == Status::Beyond).collect();
+    match beyond[..] {
+        // "If just one flagged chip is beyond mending, its word is the xor of the other eight" (Req 02).
+        [chip] if by >= Step5::Req02 => (0, Ok(rebuilt(sent, chip))),
+        // "If two or more are, the visit is refused 21" (Req 02).
+        [_, _, ..] if by >= Step5::Req02 => (0, Err(21)),
+        // "The nine words sent must xor to zero."
+        _ if xor(&sent) == 0 => (0, Ok(sent)),
+        // "Before a 21 for words that don't xor to zero" the row is diagnosed (Req 04).
+        _ if by >= Step5::Req04 => {
+            let diagnosis = row::diagnose(record, memory, line, flagged);
+            // The blamed chip's word "is then the xor of the other eight words of pass three. Nobody blamed means 21."
+            (diagnosis.passes, diagnosis.blamed.map(|chip| rebuilt(sent, chip)).ok_or(21))
+        }
+        // "Else 21."
+        _ => (0, Err(21)),
+    }
 }
 
 /// "A visit to a line" with step 6: "Only an answered line is written back", and "only that task's total moves" (Req 01).
-pub(super) fn visit(step_5: AfterPassThree, record: &mut Record, memory: &mut [u8], task: u32, line: u32) -> Visit {
-    let visit = look(step_5, record, memory, line);
+pub(super) fn visit(by: Step5, record: &mut Record, memory: &mut [u8], task: u32, line: u32) -> Visit {
+    let visit = look(by, record, memory, line);
     let Ok(words) = visit.words else { return visit };
     for (chip, &word) in words.iter().enumerate() {
         if visit.flagged >> chip & 1 == 1 {
