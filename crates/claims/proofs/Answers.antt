@@ -1,9 +1,9 @@
 -- The plain memory's rule for a line: where it answers and where it refuses, by what the patterns are and by who is blamed. Whoever needs the
 -- rule uses these laws, so that another wording of it is to be proved here alone.
 -- Assumes nothing.
-use mathlib.Core.Path.{_≡_, refl, sym, ap, ap₂, _∙_}
+use mathlib.Core.Path.{_≡_, refl, ap, ap₂, _∙_}
 use mathlib.Core.Logic.{_⊎_, inl, inr}
-use mathlib.Core.Bool.{Bool, true, false, not, _&&_, _||_, and-false, or-true, true≢false}
+use mathlib.Core.Bool.{Bool, true, false, not, _&&_, _||_, and-false, or-true}
 use Prim.Native.Nat.{ℕ, zero, suc, _^_, _≤_, _<_}
 use native.Mathlib.Nat.{le-antisymm, le-trans}
 use native.Mathlib.Omega.{arith}
@@ -45,7 +45,13 @@ module _ (p : Plain) (l : ℕ) where
   abbrev x : Line
   x = p .plainLine l
 
-  -- it answers where one of the four tests holds, in whatever order the rule has them
+  -- it refuses where none of the four tests holds, in whatever order the rule has them
+  by-none : 1 < damagedChips (p .plainLine l) → undone (p .plainLine l) ≡ false → wideBeyond (p .plainLine l) ≡ false → wideBlamed p l ≡ false
+      → answers p l ≡ false
+  unfolding answers
+  by-none several b c d = search (or-none, lt-leb, several, b, c, d)
+
+  -- and answers where one does
   by-few : damagedChips (p .plainLine l) ≤ 1 → answers p l ≡ true
   unfolding answers
   by-few few = search (or-left, or-right, le-leb, few)
@@ -61,11 +67,6 @@ module _ (p : Plain) (l : ℕ) where
   by-blamed : wideBlamed p l ≡ true → answers p l ≡ true
   unfolding answers
   by-blamed e = search (or-left, or-right, e)
-
-  by-none : 1 < damagedChips (p .plainLine l) → undone (p .plainLine l) ≡ false → wideBeyond (p .plainLine l) ≡ false → wideBlamed p l ≡ false
-      → answers p l ≡ false
-  unfolding answers
-  by-none several b c d = search (or-none, lt-leb, several, b, c, d)
 
 -- ---- by the patterns alone
 

@@ -94,7 +94,8 @@ AnsweredReadLine =
     → readOf (deviceAfter m cws cs .rank) (deviceAfter m cws cs .memory) task l b .buffer ≡ plainAfter m cs .plainLine l .bytes
 
 -- Document 02, Req 02: under the premise, a visit that answered by document 01's step 5 reports, finds and leaves the same now, whatever the
--- catch-words and whatever is counted over the row. So each visit of a patrol is meant too: the visits before it change the record and other lines, and not this line.
+-- catch-words and whatever is counted over the row. So each visit of a patrol is meant too: the visits before it change the record and other
+-- lines, and not this line.
 abbrev pub AnsweredBefore : Type 0
 AnsweredBefore =
     (m cws : List ℕ) (cs : List Call) → UnderPremise m cws cs → (l : ℕ) (words : List ℕ) (e : Evidence) → l < length m / 81

@@ -1,6 +1,6 @@
 -- What row diagnosis changes outside the premise, by computation on two lines of zeros; the device itself is run. Line 0 has check 07h in chip
--- 0, which its code takes for a bad bit in the word, and one bad bit in chip 1; line 1 has one in chip 1. Chip 1 alone is hit on a tenth of the other lines,
--- and is blamed though chip 0 is the one with the wide pattern: another line is answered where 21 came before.
+-- 0, which its code takes for a bad bit in the word, and one bad bit in chip 1; line 1 has one in chip 1. Chip 1 alone is hit on a tenth of
+-- the other lines, and is blamed though chip 0 is the one with the wide pattern: another line is answered where 21 came before.
 -- Assumes nothing.
 use mathlib.Core.Path.{_≡_, refl, sym}
 use mathlib.Core.Bool.{true≢false}
@@ -17,7 +17,6 @@ use Rattle.passes.specs.Passes.{sends, sentAt, catchWord, passOne, isCandidate,
 use Rattle.line.specs.Blame.{reaches, otherReaches, isBlamed, blamedChips}
 use Rattle.line.specs.Visit.{mustCancel, thirdFinding, thirdWord, findingBy, ownWordBy, findingOf, ownWord, ownPasses, outcomeBy, wordBy, rowPasses, outcomeOf, wordOf, withWords, writtenBack, bytesAfter, reportOf, refusalOf}
 use Rattle.line.specs.FormerVisit.{formerOutcomeBy, thirdBeforeRows, outcomeBeforeRowsBy, outcomeBeforeRows}
-use Rattle.line.specs.declared.Outcome.{Outcome}
 use Rattle.line.specs.declared.Outcome.the-variants.{Uncorrectable}
 use Rattle.visits.specs.Runs.{outs, end}
 use Rattle.rows.specs.Rows.{rowFirst, rowSize, otherLines, evidenceOf, reportIn, wordIn, bytesIn}
@@ -26,7 +25,7 @@ use Rattle.record.specs.Record.{booted, moved, grown, counted, afterAnswer, aft
 use Rattle.refusals.specs.Refusals.{memoryOut, catchWordsOut, bootRefusal, lineOut, bufferOut, chipOut, patternOut, notReady, memoryDiffers, registerDiffers, taskOut, readTests, faultRefusal}
 use Rattle.visits.specs.Visits.{visitOf, foundLine, resultOf, readBy}
 use Rattle.rank.specs.Calls.{bootBy, bootOf, readOf, faultBy, faultOf}
-use Rattle.claims.specs.Lists.{Call, read, fault, Compared, refused, done, line, deviceCall}
+use Rattle.claims.specs.Lists.{Call, read, fault, done, line, deviceCall}
 use Rattle.claims.specs.Plain.{plainBoot, undamaged, withFault, damage, damagedChips, undone, wideBeyond, isOther, otherCount, unsoundLines, reachesTenth, blames, plainAccepted, plainBy, plainCall, withPlainLine}
 use Rattle.claims.specs.Premises.{isDiagnosed, AtCalls}
 use Rattle.claims.specs.Claim.{bootedDevice, bootedPlain}

@@ -9,20 +9,19 @@ use lib.Bits.{bitAnd, bitXor}
 use lib.Count.{ones, trailingZeros}
 use lib.Dec.{eqb, ltb}
 use lib.ListN.{length, getD, set, length-set}
-use lib.Seq.{getD-set-same, getD-set-other}
 use borrow.Author.Tests.{eqb-true, eqb-false, lt-ltb}
 use Rattle.code.specs.Code.{checkOf, mended, mendedWord}
 use Rattle.code.specs.XorLaws.{xor-cancel-r}
 use Rattle.code.specs.StatusLaws.{mended-check}
 use Rattle.code.specs.TestLaws.{and-first}
-use Rattle.cells.specs.Chips.{joined, xorAll, bit, count, mask, inMask, AtPlaces}
-use Rattle.cells.specs.ChipLaws.{joined-ext, xorAll-but, count-none, count-one, count-le, ones-mask, mask-count, count-mask}
+use Rattle.cells.specs.Chips.{xorAll, bit, count, mask, AtPlaces}
+use Rattle.cells.specs.ChipLaws.{xorAll-but, count-none, count-one, count-le, ones-mask, mask-count, count-mask}
 use Rattle.cells.specs.MaskLaws.{no-ones, TakenOff}
-use Rattle.cells.specs.Cells.{cellAt, chipAt, codeword}
+use Rattle.cells.specs.Cells.{cellAt}
 use Rattle.passes.specs.Passes.{catchWord, passOne, passThree, chipStatus, isFlaggedBeyond, beyondChips, isCandidate, sentComplement, isFlagged, isCollision, flaggedChips, xorOthers}
 use Rattle.line.specs.Visit.{thirdFinding, thirdWord, mustCancel, findingBy, findingOf, ownWordBy, ownWord, ownPasses, examinedOf}
 use Rattle.line.specs.Found.{mayAnswer, ChecksUnlessRefused}
-use Rattle.passes.specs.PassLaws.{third-sent, flagged-beyond-is}
+use Rattle.passes.specs.PassLaws.{sent-catch-word, third-sent, flagged-is, flagged-beyond-is}
 use Rattle.line.proofs.Places.{placed-set, checked-set}
 use Rattle.cells.proofs.Loops.{pending-all, pending-lowest, member-is}
 use Rattle.line.specs.declared.Examined.{Examined}
@@ -128,9 +127,9 @@ module _ (m cws : List ℕ) (f : ℕ) (ef : f ≡ mask (isFlagged m cws) 9) wher
 
       -- a flagged chip's catch-word, taken off the xor of all nine, leaves that of the other eight
       taken-off : (k : ℕ) → k < 9 → isFlagged m cws k ≡ true → bitXor p (catchWord cws k) ≡ xorOthers (passOne m cws) k
-      unfolding isFlagged isCandidate xorOthers
+      unfolding xorOthers
       taken-off k l t =
-          let sent : passOne m cws k ≡ catchWord cws k = eqb-true _ _ (and-first _ _ t) in
+          let sent : passOne m cws k ≡ catchWord cws k = sent-catch-word m cws k (sym (flagged-is m cws k) ∙ t) in
           ap₂ bitXor (ep ∙ xorAll-but (passOne m cws) 9 k l) (sym sent) ∙ xor-cancel-r _ (passOne m cws k)
 
       pub one-found : {k t : ℕ} → TakenOff f k t → (ws cs : List ℕ) → length ws ≡ 9 → length cs ≡ 9 → {ws' cs' : List ℕ}

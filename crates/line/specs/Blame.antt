@@ -24,8 +24,8 @@ reaches e k = leb (e .others) (10 * e .flaggedWords k)
 unfoldable pub otherReaches : Evidence → ℕ → Bool
 otherReaches e k = ltb 0 (count (λ j. not (eqb j k) && reaches e j) chips)
 
--- chip k is blamed, document 02's term, if it is flagged on the wanted line, ten times its count reaches the number of other lines, there is at least one other
--- line, and no other chip reaches that
+-- chip k is blamed, document 02's term, if it is flagged on the wanted line, ten times its count reaches the number of other lines, there is
+-- at least one other line, and no other chip reaches that
 unfoldable pub isBlamed : Evidence → List ℕ → List ℕ → ℕ → Bool
 isBlamed e m cws k = isFlagged m cws k && (reaches e k && (ltb 0 (e .others) && not (otherReaches e k)))
 

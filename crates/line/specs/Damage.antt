@@ -1,6 +1,6 @@
 -- A line that was stored and then damaged, and what the laws of a visit to it ask of the damage: document 01, "Plain memory", and document
--- 02, Req 02, for one line. w gives the nine words that were stored, q the nine patterns as bytes, and p the patterns as numbers, a pattern's word and check as the
--- code has them.
+-- 02, Req 02, for one line. w gives the nine words that were stored, q the nine patterns as bytes, and p the patterns as numbers, a pattern's
+-- word and check as the code has them.
 -- Definitions alone; what holds of them is in `DamageLaws` and `ToleratedLaws`.
 use mathlib.Core.Path.{_≡_}
 use mathlib.Core.Logic.{_≢_}

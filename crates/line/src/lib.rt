@@ -85,6 +85,9 @@ pub fn examine(
     // Steps 3 to 5.
     let passes = passes_made(candidates, flagged);
     let parity = pass_one.parity;
+    // No contract needs these zeros. By them the compiler drops those of the caller, which steps 1 and 2 would wait for.
+    *words = [0u64; CHIPS];
+    *checks = [0u8; CHIPS];
     let finding = resolve(line, catch_words, syndromes, parity, flagged, words, checks);
     Examined {
         finding,

@@ -6,7 +6,7 @@ use mathlib.Core.List.{List}
 use Prim.Native.Nat.{ℕ, _/_, _<_}
 use native.Mathlib.Omega.{arith}
 use lib.Dec.{eqb}
-use borrow.Author.Tests.{eq-eqb, ne-eqb, eqb-true, eqb-false, not-false}
+use borrow.Author.Tests.{eq-eqb, ne-eqb, eqb-true, eqb-false, not-true, not-false}
 use Rattle.code.specs.Code.{isCodeword}
 use Rattle.code.specs.CodeLaws.{codeword-syndrome}
 use Rattle.code.specs.MendLaws.{mendedWord-codeword}
@@ -30,6 +30,11 @@ sent-word m cws k h = rw (not-false (isCodeword (cellAt m k)) h)
 pub sent-held : (m cws : List ℕ) (k : ℕ) → Bytes m → isUnsound m k ≡ false → passOne m cws k ≡ wordAt m k
 sent-held m cws k bytes e = sent-word m cws k e ∙ held-word m k bytes
 
+-- one that holds no codeword sends its catch-word
+pub sent-catch-word : (m cws : List ℕ) (k : ℕ) → isUnsound m k ≡ true → passOne m cws k ≡ catchWord cws k
+unfolding isUnsound passOne sentAt sends
+sent-catch-word m cws k h = rw (not-true (isCodeword (cellAt m k)) h)
+
 -- any chip sends M of its nine bytes in pass three
 pub third-sent : (m cws : List ℕ) (k : ℕ) → passThree m cws k ≡ mendedAt m k
 unfolding passThree sentAt sends
@@ -39,12 +44,6 @@ third-sent m cws k = refl
 pub sound-mended : (m : List ℕ) (k : ℕ) → isUnsound m k ≡ false → mendedAt m k ≡ heldWord m k
 unfolding isUnsound
 sound-mended m k h = mendedWord-codeword (cellAt m k) (codeword-syndrome (cellAt m k) (not-false (isCodeword (cellAt m k)) h))
-
--- so a chip that holds a codeword sends its word, Enable set or clear
-pub sound-sends : (enable : Bool) (register : ℕ) (m : List ℕ) (k : ℕ) → Bytes m → isUnsound m k ≡ false → sends enable register (cellAt m k) ≡ wordAt m k
-unfolding sends isUnsound
-sound-sends true register m k bytes h = rw (not-false (isCodeword (cellAt m k)) h) (held-word m k bytes)
-sound-sends false register m k bytes h = sound-mended m k h ∙ held-word m k bytes
 
 -- a chip that holds a codeword is not beyond mending
 pub sound-mends : (m : List ℕ) (k : ℕ) → isUnsound m k ≡ false → beyondAt m k ≡ false

@@ -4,8 +4,8 @@ ghost use lib.ListN.{length};
 ghost use Rattle.cells.specs.Cells.{chips, lineBytes};
 ghost use Rattle.cells.specs.Chips.{xorAll, mask};
 ghost use Rattle.passes.specs.Passes.{passOne, isCandidate, isUnsound};
-use super::chips;
 use super::equal;
+use super::held_words;
 use cells::CHIPS;
 use cells::masks;
 
@@ -24,10 +24,22 @@ pub fn pass(line: &[u8], catch_words: &[u64; CHIPS], unsound: u32) -> PassOne
     ensures parity { λ r. ⌜ r .parity ≡ xorAll (passOne (now (line .entry)) (now («catch_words» .entry))) chips ⌝ }
 {
     let candidates = unsound | equal::of_line(line, catch_words);
-    let mut parity = 0u64;
-    for k in 0..CHIPS {
-        let is_unsound = masks::member(unsound, k);
-        parity = parity ^ chips::sent_by(is_unsound, line, k, catch_words[k]);
-    }
+    let parity = parity(line, catch_words, unsound);
     PassOne { candidates, parity }
+}
+
+// The xor of the nine words sent: of the words held, and for each chip that holds no codeword its catch-word in place of its word.
+fn parity(line: &[u8], catch_words: &[u64; CHIPS], unsound: u32) -> u64
+    requires sizes { ⌜ (length (now line) ≡ lineBytes) × (length (now «catch_words») ≡ chips) ⌝ }
+    requires unsound { ⌜ unsound ≡ mask (isUnsound (now line)) chips ⌝ }
+    ensures { λ r. ⌜ r ≡ xorAll (passOne (now (line .entry)) (now («catch_words» .entry))) chips ⌝ }
+{
+    let mut parity = held_words::parity(line);
+    let mut rest = unsound;
+    while rest != 0 {
+        let k = masks::lowest(rest);
+        parity = parity ^ cells::word_at(line, k) ^ catch_words[k];
+        rest = masks::without_lowest(rest);
+    }
+    parity
 }

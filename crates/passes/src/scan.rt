@@ -3,11 +3,12 @@ ghost use mathlib.Core.Path.{_≡_};
 ghost use lib.Dec.{eqb};
 ghost use lib.ListN.{length};
 ghost use Rattle.cells.specs.Chips.{xorAll, count};
-ghost use Rattle.cells.specs.Cells.{chips, lineBytes, wordAt, checkAt};
+ghost use Rattle.cells.specs.Cells.{chips, lineBytes, checkAt};
 ghost use Rattle.cells.specs.Checks.{everyOther};
 ghost use Rattle.passes.specs.Scan.{isClean};
 ghost use Rattle.passes.specs.Passes.{isUnsound};
 use super::equal;
+use super::held_words;
 use super::syndromes;
 use cells::CHIP_BYTES;
 use cells::CHIPS;
@@ -20,7 +21,7 @@ pub fn is_clean(line: &[u8], catch_words: &[u64; CHIPS]) -> bool
     requires { ⌜ (length (now line) ≡ lineBytes) × (length (now «catch_words») ≡ chips) ⌝ }
     ensures { λ r. ⌜ r ≡ isClean (now (line .entry)) (now («catch_words» .entry)) ⌝ }
 {
-    if parity(line) != 0 {
+    if held_words::parity(line) != 0 {
         return false;
     }
     if !equal::none(line, catch_words) {
@@ -31,18 +32,6 @@ pub fn is_clean(line: &[u8], catch_words: &[u64; CHIPS]) -> bool
         return false;
     }
     eight_sound(line, held)
-}
-
-// The xor of the nine words.
-fn parity(line: &[u8]) -> u64
-    requires { ⌜ length (now line) ≡ lineBytes ⌝ }
-    ensures { λ r. ⌜ r ≡ xorAll (wordAt (now (line .entry))) chips ⌝ }
-{
-    let mut parity = 0u64;
-    for k in 0..CHIPS {
-        parity = parity ^ cells::word_at(line, k);
-    }
-    parity
 }
 
 // The xor of the nine check bytes, given those of chips 0 to 7.

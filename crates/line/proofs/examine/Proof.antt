@@ -1,5 +1,5 @@
 -- `line::examine` meets its contract. Assumes nothing.
-use mathlib.Core.Path.{_≡_, ap, _∙_}
+use mathlib.Core.Path.{_≡_, refl, ap, _∙_}
 use mathlib.Core.Bool.{not}
 use mathlib.Core.List.{List}
 use Prim.Native.Nat.{ℕ}
@@ -28,18 +28,22 @@ pass-requires-2 c κs = (pass-requires (c .before) κs .0, (pass-requires (c .be
 
 resolve-requires : tie.Need-resolve-requires
 resolve-requires c κs =
-    let s = c .before .before .before .before .before .before .before .before in
-    (s .pre, (c .before .before .before .before .before .before .of-line .ensures, (c .before .before .before .before .pass .ensures .1, c .before .before .before .pass2 .ensures)))
+    let p = c .before .before in
+    let s = p .before .before .before .before .before .before .before .before in (
+      (s .pre .0, s .pre .1, refl, refl),
+      (p .before .before .before .before .before .before .of-line .ensures, (p .before .before .before .before .pass .ensures .1, p .before .before .before .pass2 .ensures)),
+    )
 
 returns : tie.Need-returns
 returns c =
-    let x = c .before .before .before .before .before .before .before .before .before .args in
+    let p = c .before .before .before in
+    let x = p .before .before .before .before .before .before .before .before .args in
     let m = x .line .now in
     let cws = x .catch-words .now in
-    let flagged = c .before .before .before .before .pass2 .ensures in
-    let candidates = c .before .before .before .before .before .pass .ensures .0 in
+    let flagged = p .before .before .before .pass2 .ensures in
+    let candidates = p .before .before .before .before .pass .ensures .0 in
     let found = c .resolve .ensures in
-    (examined-is m cws (found .0) candidates flagged (passes-made m cws candidates flagged (c .before .before .before .passes-made .ensures)), found .1)
+    (examined-is m cws (found .0) candidates flagged (passes-made m cws candidates flagged (p .before .before .passes-made .ensures)), found .1)
 
 pub examine-spec : {M : Type 1} → statement M
 examine-spec =

@@ -1,4 +1,5 @@
--- What pass three keeps, a turn for each flagged chip. Assumes nothing.
+-- What loops over the chips of a mask keep: pass one, a turn for each chip that holds no codeword, and pass three, one for each flagged chip.
+-- Assumes nothing.
 use mathlib.Core.Path.{_≡_, refl, sym, ap, ap₂, _∙_}
 use mathlib.Core.Bool.{Bool, true, false, not, _&&_, _||_, cond, true≢false}
 use mathlib.Core.List.{List}
@@ -9,13 +10,12 @@ use lib.Dec.{eqb}
 use lib.ListN.{length, getD, set, length-set}
 use lib.Seq.{getD-set-same, getD-set-other}
 use borrow.Author.Tests.{eqb-true, eqb-false}
-use Rattle.code.specs.TestLaws.{and-first}
 use Rattle.cells.specs.Chips.{xorAll, bit, mask, inMask, AtPlaces}
 use Rattle.cells.specs.ChipLaws.{xorAll-ext, xorAll-change, mask-ext, mask-zero}
 use Rattle.cells.specs.MaskLaws.{TakenOff, mask-with, no-member}
 use Rattle.cells.proofs.Loops.{Pending, pending-all, pending-next, rest-own, rest-other, member-is}
-use Rattle.passes.specs.Passes.{catchWord, passOne, passThree, isCandidate, isFlagged, isFlaggedBeyond, isUnsound, mendedAt, beyondAt}
-use Rattle.passes.specs.PassLaws.{sent-word, third-sent, sound-mended, sound-mends, flagged-is, flagged-beyond-is}
+use Rattle.passes.specs.Passes.{catchWord, passOne, passThree, isFlagged, isFlaggedBeyond, isUnsound, mendedAt, beyondAt}
+use Rattle.passes.specs.PassLaws.{sent-word, sent-catch-word, third-sent, sound-mended, sound-mends, flagged-is, flagged-beyond-is}
 
 -- ---- values put at the places of a mask's chips
 
@@ -43,13 +43,42 @@ put-more {p} {f} {rest} {k} {t} {v} {s} h l e =
 pub put-all : {p : ℕ → Bool} {f : ℕ → ℕ} {rest : ℕ} {s : List ℕ} → Put p f rest s → rest ≡ 0 → AtPlaces p f s 9
 put-all h e = record { at = λ k l t. h .done k l t (ap (λ (m : ℕ). inMask m k) e ∙ no-member k l) }
 
+-- ---- one value for another in an xor
+
+-- the chips of `rest` pass p and have not had their turn: `left` is the xor of f for them and of g for the others
+pub record Exchanged (p : ℕ → Bool) (f g : ℕ → ℕ) (rest left : ℕ) : Type 0 where
+  pub pending : Pending p rest
+  pub parity : left ≡ xorAll (λ k. cond (inMask rest k) (f k) (g k)) 9
+
+pub exchanged-none : (p : ℕ → Bool) (f g : ℕ → ℕ) {rest left : ℕ} → rest ≡ mask p 9 → ((k : ℕ) → k < 9 → p k ≡ false → f k ≡ g k) → left ≡ xorAll f 9
+    → Exchanged p f g rest left
+exchanged-none p f g {rest} e same q =
+    record { pending = pending-all p e; parity = q ∙ xorAll-ext _ _ 9 (λ k l. all k l (inMask rest k) refl) }
+  where
+    all : (k : ℕ) → k < 9 → (b : Bool) → inMask rest k ≡ b → f k ≡ cond b (f k) (g k)
+    all k l true o = refl
+    all k l false o = same k l (sym (member-is p e l refl) ∙ o)
+
+pub exchanged-more : {p : ℕ → Bool} {f g : ℕ → ℕ} {rest left k t x y : ℕ} → Exchanged p f g rest left → TakenOff rest k t → x ≡ f k → y ≡ g k
+    → Exchanged p f g t (bitXor (bitXor left x) y)
+exchanged-more {p} {f} {g} {rest} {left} {k} {t} {x} {y} h l ex ey =
+    let before : ℕ → ℕ = λ i. cond (inMask rest i) (f i) (g i) in
+    let after : ℕ → ℕ = λ i. cond (inMask t i) (f i) (g i) in
+    record {
+      pending = pending-next (h .pending) l;
+      parity =
+          ap₂ (λ (a b : ℕ). bitXor (bitXor a b) y) (h .parity) (ex ∙ ap (λ (c : Bool). cond c (f k) (g k)) (sym (l .member)))
+          ∙ ap (bitXor (bitXor (xorAll before 9) (before k))) (ey ∙ ap (λ (c : Bool). cond c (f k) (g k)) (sym (rest-own l)))
+          ∙ xorAll-change before after 9 k (l .below) (λ i u ne. ap (λ (c : Bool). cond c (f i) (g i)) (sym (rest-other l i u ne)));
+    }
+
+pub exchanged-all : {p : ℕ → Bool} {f g : ℕ → ℕ} {rest left : ℕ} → Exchanged p f g rest left → rest ≡ 0 → left ≡ xorAll g 9
+exchanged-all {p} {f} {g} h e =
+    h .parity ∙ xorAll-ext _ _ 9 (λ k l. ap (λ (c : Bool). cond c (f k) (g k)) (ap (λ (x : ℕ). inMask x k) e ∙ no-member k l))
+
 -- ---- m stands for the line's bytes, cws for the catch-words
 
 module _ (m cws : List ℕ) where
-  -- what chip k has sent while the chips of `rest` have not sent in pass three
-  pub between : ℕ → ℕ → ℕ
-  between rest k = cond (inMask rest k) (passOne m cws k) (passThree m cws k)
-
   -- a chip that is not flagged sends the same in pass one and in pass three
   same-sent : (k : ℕ) → isFlagged m cws k ≡ false → passOne m cws k ≡ passThree m cws k
   same-sent k e =
@@ -63,44 +92,28 @@ module _ (m cws : List ℕ) where
   -- the flagged chips of `rest` have not sent in pass three; the xor of what was sent, and the chips found beyond mending, are those of the
   -- others
   pub record Sent (rest left beyond : ℕ) : Type 0 where
-    pub pending : Pending (isFlagged m cws) rest
-    pub parity : left ≡ xorAll (between rest) 9
+    pub xor : Exchanged (isFlagged m cws) (passOne m cws) (passThree m cws) rest left
     pub found : beyond ≡ mask (among rest) 9
 
   pub sent-none : {rest left : ℕ} → rest ≡ mask (isFlagged m cws) 9 → left ≡ xorAll (passOne m cws) 9 → Sent rest left 0
-  unfolding between among
+  unfolding among
   sent-none {rest} e p =
       record {
-        pending = pending-all (isFlagged m cws) e;
-        parity = p ∙ xorAll-ext _ _ 9 (λ k l. all k l (inMask rest k) refl);
+        xor = exchanged-none _ _ _ e (λ k _. same-sent k) p;
         found = sym (mask-zero _ 9 (λ k l. none k l (inMask rest k) refl));
       }
     where
-      sound : (k : ℕ) → k < 9 → inMask rest k ≡ false → isFlagged m cws k ≡ false
-      sound k l o = sym (member-is (isFlagged m cws) e l refl) ∙ o
-
-      all : (k : ℕ) → k < 9 → (b : Bool) → inMask rest k ≡ b → passOne m cws k ≡ cond b (passOne m cws k) (passThree m cws k)
-      all k l true o = refl
-      all k l false o = same-sent k (sound k l o)
-
       none : (k : ℕ) → k < 9 → (b : Bool) → inMask rest k ≡ b → (not b && beyondAt m k) ≡ false
       none k l true o = refl
-      none k l false o = sound-mends m k (sym (flagged-is m cws k) ∙ sound k l o)
+      none k l false o = sound-mends m k (sym (flagged-is m cws k) ∙ sym (member-is (isFlagged m cws) e l refl) ∙ o)
 
   pub sent-more : {rest left beyond k t w : ℕ} {b : Bool} → Sent rest left beyond → TakenOff rest k t → w ≡ mendedAt m k → b ≡ beyondAt m k
       → {v : ℕ} → v ≡ bit b * 2 ^ k → Sent t (bitXor (bitXor left (catchWord cws k)) w) (bitOr beyond v)
-  unfolding between among isFlagged isCandidate
+  unfolding among
   sent-more {rest} {left} {beyond} {k} {t} {w} {b} h l ew eb {v} ev =
-      let flagged : isFlagged m cws k ≡ true = h .pending .chips k (l .below) (l .member) in
-      let own : passOne m cws k ≡ catchWord cws k = eqb-true _ _ (and-first _ _ flagged) in
-      let before : between rest k ≡ catchWord cws k = ap (λ (c : Bool). cond c (passOne m cws k) (passThree m cws k)) (l .member) ∙ own in
-      let after : between t k ≡ w = ap (λ (c : Bool). cond c (passOne m cws k) (passThree m cws k)) (rest-own l) ∙ third-sent m cws k ∙ sym ew in
+      let flagged : isFlagged m cws k ≡ true = h .xor .pending .chips k (l .below) (l .member) in
       record {
-        pending = pending-next (h .pending) l;
-        parity =
-            ap₂ (λ (x y : ℕ). bitXor (bitXor x y) w) (h .parity) (sym before) ∙ ap (bitXor (bitXor (xorAll (between rest) 9) (between rest k))) (sym after)
-            ∙ xorAll-change (between rest) (between t) 9 k (l .below)
-            (λ i u ne. ap (λ (c : Bool). cond c (passOne m cws i) (passThree m cws i)) (sym (rest-other l i u ne)));
+        xor = exchanged-more (h .xor) l (sym (sent-catch-word m cws k (sym (flagged-is m cws k) ∙ flagged))) (ew ∙ sym (third-sent m cws k));
         found =
             ap₂ bitOr (h .found) (ev ∙ ap (λ (c : Bool). bit c * 2 ^ k) eb)
             ∙ mask-with (among rest) (beyondAt m k) k (l .below)
@@ -121,9 +134,9 @@ module _ (m cws : List ℕ) where
 
   pub sent-all : {rest left beyond : ℕ} → Sent rest left beyond → rest ≡ 0
       → (left ≡ xorAll (passThree m cws) 9) × (beyond ≡ mask (isFlaggedBeyond m cws) 9)
-  unfolding between among
+  unfolding among
   sent-all {rest} h e =
       let none : (k : ℕ) → k < 9 → inMask rest k ≡ false = λ k l. ap (λ (x : ℕ). inMask x k) e ∙ no-member k l in (
-        h .parity ∙ xorAll-ext _ _ 9 (λ k l. ap (λ (c : Bool). cond c (passOne m cws k) (passThree m cws k)) (none k l)),
+        exchanged-all (h .xor) e,
         h .found ∙ mask-ext _ _ 9 (λ k l. ap (λ (c : Bool). not c && beyondAt m k) (none k l) ∙ sym (flagged-beyond-is m cws k)),
       )
