@@ -29,6 +29,10 @@
  * chip 1 has one. Chip 1 is blamed, since it is flagged in the one other line and chip 0 is not, and it is rebuilt from
  * chip 0's word. The read of line 0 gives the same two wrong bits.
  *
+ * Catch-words may be taken from serial numbers: proved over every list of calls and with any damage, which ones a
+ * record starts with changes how many passes are made, the collision masks and the catch-words themselves, and no
+ * refusal, line, count, repair or stored byte (catch-words-dont-matter).
+ *
  * What a caller owes
  *
  * - At start-up, compare rank_version() with RANK_VERSION. An archive of another version can link, and its calls then
@@ -214,7 +218,7 @@ uint32_t rank_version(void);
  *
  *   memory       the memory to lend. It is cleared, so that every line reads as 64 zeros.
  *   memory_len   how many bytes it has: RANK_MEMORY_BYTES of 1 to RANK_LINE_LIMIT lines
- *   catch_words  the catch-words, any values; random ones meet stored data least often. Only read.
+ *   catch_words  the catch-words, any values; random ones meet stored data, which costs a pass, least often. Only read.
  *   count        how many they are: RANK_CHIPS
  *
  * The record has N = memory_len / 81, Enable set, the catch-words in both copies and every repair total 0. A refused

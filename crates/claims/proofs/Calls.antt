@@ -107,7 +107,7 @@ module _ (n : ℕ) where
       record {
         same =
             ap₂ counts (sym (length-map vs reportRefused) ∙ ap length (w .answers) ∙ length-map ss plainRefusedBy)
-            (sum-map reportRefused vs ∙ ap (sumOf (λ (k : ℕ). k)) (w .answers) ∙ sym (sum-map plainRefusedBy ss));
+            (sum-map reportRefused (λ k. k) vs ∙ ap (sumOf (λ (k : ℕ). k)) (w .answers) ∙ sym (sum-map plainRefusedBy (λ k. k) ss));
         now-related = w .related;
       }
 

@@ -227,9 +227,9 @@ visits-same n task =
     lockstep (Related n) reportRefused plainRefusedBy (visitOf task) plainVisit (λ l. l < n) Premise (visit-same n task)
 
 -- what agrees element by element has the same sum
-pub sum-map : {A : Type 0} (f : A → ℕ) (xs : List A) → sumOf f xs ≡ sumOf (λ n. n) (map f xs)
-sum-map f [] = refl
-sum-map f (x ∷ xs) = ap (λ (n : ℕ). f x + n) (sum-map f xs)
+pub sum-map : {A B : Type 0} (g : A → B) (f : B → ℕ) (xs : List A) → sumOf (λ x. f (g x)) xs ≡ sumOf f (map g xs)
+sum-map g f [] = refl
+sum-map g f (x ∷ xs) = ap (λ (n : ℕ). f (g x) + n) (sum-map g f xs)
 
 -- the lines that a patrol visits are below the line that it ends at
 pub below-upFrom : (n l k : ℕ) → l + k ≤ n → Every (λ j. j < n) (upFrom l k)

@@ -25,7 +25,7 @@ use Rattle.visits.specs.Visits.{Device, visitOf, resultOf, readBy}
 use Rattle.rank.specs.Calls.{bootBy, bootOf, readOf, patrolled, patrolLines, patrolBy, patrolOf, faultBy, faultOf}
 use Rattle.claims.specs.Lists.{Call, read, patrol, fault, deviceCall}
 use Rattle.claims.specs.Claim.{bootedDevice}
-use Rattle.claims.specs.Tasks.{Counting, rewrites, changedBy, tasks, totalOf, after, allRewritten, Counted, anyTask, TasksAlike}
+use Rattle.claims.specs.Tasks.{Counting, rewrites, changedBy, tasks, totalOf, after, allRewritten, Counted, withTask, anyTask, TasksAlike}
 use Rattle.claims.proofs.Decided.{bytes-hold, all-typed}
 use Rattle.examples.proofs.Examples.{buffer, widePattern, narrowPattern, catchWords}
 use Rattle.claims.proofs.Tasks.{tasks-alike}
@@ -94,5 +94,5 @@ abbrev pub otherCalls : List Call
 otherCalls = fault 0 3 widePattern ∷ read 7 0 buffer ∷ fault 0 2 narrowPattern ∷ fault 0 7 narrowPattern ∷ patrol 0 0 1 ∷ fault 0 4 widePattern ∷ read 8 0 buffer ∷ []
 
 pub alike-shown : TasksAlike memory catchWords taskCalls otherCalls
-unfolding anyTask
+unfolding withTask anyTask
 alike-shown = tasks-alike memory catchWords taskCalls otherCalls refl

@@ -1,5 +1,6 @@
--- Laws of a row: how many other lines it has; that the counts over them are the same for any catch-words; the passes that a visit reports where
--- its row is diagnosed; and that it is not diagnosed for two chips beyond mending.
+-- Laws of a row: how many other lines it has; that the counts over them, and so the outcome, flagged mask, words and bytes of a visit, are
+-- the same for any catch-words; the passes that a visit reports where its row is diagnosed; and that it is not diagnosed for two chips
+-- beyond mending.
 -- Assumes nothing.
 use mathlib.Core.Path.{_≡_, refl, sym, ap, ap₂, _∙_}
 use mathlib.Core.Logic.{_≢_}
@@ -17,13 +18,14 @@ use Rattle.cells.specs.ChipLaws.{bit-lt}
 use Rattle.passes.specs.Passes.{isCandidate, isFlagged, flaggedChips, passThree, beyondChips}
 use Rattle.passes.specs.PassLaws.{flagged-is}
 use Rattle.line.specs.Blame.{Evidence}
-use Rattle.line.specs.Visit.{findingOf, ownPasses, outcomeBy, outcomeOf, rowPasses, reportOf}
+use Rattle.line.specs.Visit.{findingOf, ownPasses, outcomeBy, outcomeOf, wordOf, bytesAfter, rowPasses, reportOf}
+use Rattle.line.specs.CatchWordLaws.{outcome-free, word-free, bytes-free, flagged-free}
 use Rattle.line.specs.FindingLaws.{undecided-made, three-passes, two-beyond}
 use Rattle.line.specs.declared.Outcome.the-variants.{Uncorrectable}
 use Rattle.line.specs.declared.Finding.{Finding}
 use Rattle.line.specs.declared.Finding.the-variants.{Decided, Undecided}
 use Rattle.memory.specs.Lines.{lineAt}
-use Rattle.rows.specs.Rows.{rowFirst, rowSize, otherLines, evidenceOf, reportIn}
+use Rattle.rows.specs.Rows.{rowFirst, rowSize, otherLines, evidenceOf, reportIn, wordIn, bytesIn}
 
 -- a line is in its row
 pub first-le : (l : ℕ) → rowFirst l ≤ l
@@ -66,6 +68,28 @@ flagged-sum m c d k ls =
 pub evidence-free : (n : ℕ) (m : List ℕ) (l : ℕ) (c d : List ℕ) → evidenceOf n m l c ≡ evidenceOf n m l d
 unfolding evidenceOf
 evidence-free n m l c d = λ i. record { others = length (otherLines n l); flaggedWords = λ k. flagged-sum m c d k (otherLines n l) i }
+
+-- so are the outcome, the flagged mask, each chip's word and the line's bytes after it, of a visit to line l of a memory m of n lines,
+-- whether its row is diagnosed or not
+module _ (n : ℕ) (m : List ℕ) (l : ℕ) (c d : List ℕ) where
+  pub outcome-in-free : reportIn n m l c .outcome ≡ reportIn n m l d .outcome
+  unfolding reportIn reportOf
+  outcome-in-free =
+      ap (λ (e : Evidence). outcomeOf e (lineAt m l) c) (evidence-free n m l c d) ∙ outcome-free (evidenceOf n m l d) (lineAt m l) c d
+
+  pub flagged-in-free : reportIn n m l c .flagged ≡ reportIn n m l d .flagged
+  unfolding reportIn reportOf
+  flagged-in-free = flagged-free (evidenceOf n m l d) (lineAt m l) c d
+
+  pub word-in-free : (k : ℕ) → k < 9 → wordIn n m l c k ≡ wordIn n m l d k
+  unfolding wordIn
+  word-in-free k h =
+      ap (λ (e : Evidence). wordOf e (lineAt m l) c k) (evidence-free n m l c d) ∙ word-free (evidenceOf n m l d) (lineAt m l) c d k h
+
+  pub bytes-in-free : bytesIn n m l c ≡ bytesIn n m l d
+  unfolding bytesIn
+  bytes-in-free =
+      ap (λ (e : Evidence). bytesAfter e (lineAt m l) c) (evidence-free n m l c d) ∙ bytes-free (evidenceOf n m l d) (lineAt m l) c d
 
 -- ---- what a visit to line l of a memory m of n lines reports
 

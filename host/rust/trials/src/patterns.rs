@@ -42,3 +42,22 @@ pub fn random_with(status: Status, random: &mut Random) -> Cell {
 pub fn random_check(random: &mut Random) -> Cell {
     code::cell(0, random.byte())
 }
+
+/// One bit, few bits, any bytes, or a codeword: the code's polynomial moved up is one.
+pub fn random_damage(random: &mut Random) -> Cell {
+    match random.below(10) {
+        0..=6 => random_bits(random, 1),
+        7 => random_bits(random, 3),
+        8 => random.array(),
+        _ => cell_of(0x107 << random.below(64)),
+    }
+}
+
+/// The pattern that makes a chip hold a word in place of what it holds, with the right check byte or another.
+pub fn random_leading(held: Cell, word: u64, random: &mut Random) -> Cell {
+    let mut wanted = code::codeword(word);
+    if random.chance(40) {
+        wanted[8] ^= 1 + random.below(255) as u8;
+    }
+    xor(wanted, held)
+}

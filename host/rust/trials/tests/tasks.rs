@@ -6,8 +6,7 @@ use lemtskavo_trials::arguments::Arguments;
 use lemtskavo_trials::bad_row::BadRows;
 use lemtskavo_trials::booted::Booted;
 use lemtskavo_trials::call::{Call, Kind, Outcome};
-use lemtskavo_trials::model::code::Cell;
-use lemtskavo_trials::patterns::{cell_of, random_bits};
+use lemtskavo_trials::patterns::random_damage;
 use lemtskavo_trials::random::Random;
 use lemtskavo_trials::tally::{STEP_5, Tally};
 
@@ -18,23 +17,13 @@ fn catch_word(random: &mut Random) -> u64 {
     if random.chance(70) { u64::from_be_bytes([random.pick(&FILLERS); 8]) } else { random.word() }
 }
 
-/// One bit, few bits, any bytes, or a codeword: the code's polynomial moved up is one.
-fn pattern(random: &mut Random) -> Cell {
-    match random.below(10) {
-        0..=6 => random_bits(random, 1),
-        7 => random_bits(random, 3),
-        8 => random.array(),
-        _ => cell_of(0x107 << random.below(64)),
-    }
-}
-
 /// Any call, with wrong arguments at times, or the next one of a bad row.
 fn any(bad_rows: &mut BadRows, arguments: &Arguments, random: &mut Random) -> Call {
     if let Some(call) = bad_rows.next(arguments, random) {
         return call;
     }
     match random.below(100) {
-        0..=37 => Call::Fault { line: arguments.line(random), chip: arguments.chip(random), pattern: pattern(random).to_vec() },
+        0..=37 => Call::Fault { line: arguments.line(random), chip: arguments.chip(random), pattern: random_damage(random).to_vec() },
         38..=67 => arguments.read(random),
         68..=79 => arguments.patrol(random),
         80..=93 => Call::Write { line: arguments.line(random), data: vec![random.pick(&FILLERS); 64] },

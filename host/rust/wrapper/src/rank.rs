@@ -36,7 +36,8 @@ const _: () = {
 
 impl<'m> Rank<'m> {
     /// Makes a rank of as many lines as the memory holds: [`memory_bytes`](crate::memory_bytes) says how long it is. The memory is cleared,
-    /// so that every line reads as 64 zeros. Catch-words may have any values; random ones meet stored data least often.
+    /// so that every line reads as 64 zeros. Catch-words may have any values, and which they are changes no refusal, line, count, repair or
+    /// stored byte; random ones meet stored data, which costs a pass, least often.
     ///
     /// The memory is lent until the rank is dropped or gives it back by [`into_memory`](Rank::into_memory). A refused boot changes no byte
     /// and keeps nothing, so that a caller who lent `&mut memory`, or `&mut *memory` of a reference, has the memory again at once:

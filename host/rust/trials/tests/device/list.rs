@@ -4,7 +4,7 @@ use lemtskavo_trials::bad_row::BadRows;
 use lemtskavo_trials::call::Call;
 use lemtskavo_trials::model::code;
 use lemtskavo_trials::model::device::{self, Step5};
-use lemtskavo_trials::patterns::{random_bits, random_check, xor};
+use lemtskavo_trials::patterns::{random_bits, random_check, random_leading};
 use lemtskavo_trials::random::Random;
 use lemtskavo_trials::tally::Tally;
 use lemtskavo_trials::twin::Twin;
@@ -110,11 +110,7 @@ impl List {
         let (line, chip) = (line.min(self.arguments.lines - 1), chip.min(8) as usize);
         let catch_word = self.twin.record().catch_words[chip];
         let target = if self.random.chance(60) { catch_word } else { !catch_word };
-        let mut wanted = code::codeword(target);
-        if self.random.chance(40) {
-            wanted[8] ^= 1 + self.random.below(255) as u8;
-        }
-        xor(wanted, device::held(&self.twin.model, line, chip))
+        random_leading(device::held(&self.twin.model, line, chip), target, &mut self.random)
     }
 
     fn fault(&mut self) -> Call {
