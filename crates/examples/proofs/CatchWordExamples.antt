@@ -3,6 +3,7 @@
 -- (`collision-same`).
 -- Assumes nothing.
 use mathlib.Core.Path.{_≡_, refl}
+use mathlib.Core.Bool.{false}
 use mathlib.Core.List.{List, [], _∷_}
 use Prim.Native.Nat.{ℕ}
 use lib.Count.{ones, onesIn}
@@ -64,6 +65,16 @@ pub collision-same : SameInBoth zeroWords elevenWords memory collisionCalls
 unfolding booted
 collision-same =
     catch-words-dont-matter zeroWords elevenWords memory collisionCalls
+    (record { lines = refl; enable = refl; repairs = refl; oneCopies = refl; otherCopies = refl })
+
+-- a record that every call refuses with 12: Enable clear and N out of range
+abbrev pub unready : List ℕ → Rank
+unready cws = record { lines = 65537; enable = false; «catch_words» = cws; registers = cws; repairs = [] }
+
+-- nothing but equal copies is asked: the claim holds of such records too, for any catch-words, memory and list
+pub unready-same : (c w m : List ℕ) (cs : List Call) → SameInBoth (unready c) (unready w) m cs
+unready-same c w m cs =
+    catch-words-dont-matter (unready c) (unready w) m cs
     (record { lines = refl; enable = refl; repairs = refl; oneCopies = refl; otherCopies = refl })
 
 -- the second record with other registers, so that its copies are not equal

@@ -276,6 +276,9 @@ fn catch_words_change_no_refusal_line_count_or_byte() {
     ];
     tally.demand(&cases, 100);
     tally.demand(&STEP_5, 500);
-    // 14 comes in neither.
     tally.demand_possible(&Kind::ALL[1..], &[14], 100);
+    // 14 comes in neither run, since the copies of both records stay equal.
+    for kind in Kind::ALL {
+        assert_eq!(tally.refused(kind, 14), 0, "{kind:?}");
+    }
 }
