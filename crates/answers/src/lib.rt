@@ -1,4 +1,6 @@
 // One line of a script for program `bench` (document 01, "Bench examples"): its call is made, and the answer is put in the output.
+#![tactic(auto)]
+
 ghost use Rattle.std.specs.Prelude.{◌≡◌, ◌+◌, ◌≤◌, length, replicate};
 ghost use Rattle.cells.specs.Cells.{data_bytes};
 ghost use Rattle.rank.specs.Calls.{write_of, read_of, fault_of};
@@ -10,7 +12,7 @@ use events::Event;
 use record::Rank;
 
 // What a line leaves beside the memory: how many bytes of output there are with its answer, and the record.
-#[derive(Drop)]
+#[derive(Clone, Copy)]
 pub struct Answered {
     pub length: usize,
     pub rank: Rank,

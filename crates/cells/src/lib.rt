@@ -1,5 +1,7 @@
 // A line's words and check bytes in its 81 lent bytes (document 01, "The rank"). Check bytes pass between lent bytes and codewords here
 // alone.
+#![tactic(auto)]
+
 ghost use Rattle.std.specs.Prelude.{◌≡◌, ◌+◌, ◌*◌, ◌<◌, length};
 ghost use Rattle.code.specs.Code.{check_of};
 ghost use Rattle.words.specs.Bytes.{xor_bytes};

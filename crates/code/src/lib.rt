@@ -1,5 +1,7 @@
 // The code inside a chip: CRC-8 with the polynomial x^8 + x^2 + x + 1 (document 01, "The code inside a chip"), and what a chip tells of a
 // word that it sends with Enable clear (document 02, Req 02).
+#![tactic(auto)]
+
 ghost use Rattle.std.specs.Prelude.{◌≡◌, ◌+◌, ◌*◌, ◌/◌, ◌%◌};
 ghost use Rattle.std.specs.Int.Count.{count_trailing_zeros};
 ghost use Rattle.code.specs.Code.{cell, times_x, syndrome_of, check_of, position_of, bit_at, mended, mended_word, status_at, status_of, is_beyond};
@@ -8,7 +10,7 @@ ghost use Rattle.code.specs.Walks.{each_byte, mark_if};
 
 // What a chip tells of a word sent with Enable clear, in document 02's words. Sound: it holds a codeword. Mended: one bit was inverted.
 // Beyond mending: it holds no codeword, and nothing was inverted.
-#[derive(Drop)]
+#[derive(Clone, Copy)]
 pub enum Status {
     Sound,
     Mended,
@@ -16,7 +18,7 @@ pub enum Status {
 }
 
 // Nine bytes after mending: the word and the check byte, and their status.
-#[derive(Drop)]
+#[derive(Clone, Copy)]
 pub struct Mending {
     pub word: u64,
     pub check: u8,

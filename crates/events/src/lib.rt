@@ -1,4 +1,6 @@
 // The event of a script's line.
+#![tactic(auto)]
+
 ghost use Rattle.std.specs.Prelude.{◌≡◌};
 ghost use Rattle.events.specs.Fields.{fields};
 ghost use Rattle.events.specs.Events.{event_of, letter_event, write_event, byte_event, read_event, pattern_event, chip_event, fault_event};
@@ -8,7 +10,7 @@ pub mod numbers;
 use numbers::{Leading, Number, leading_number};
 
 // What a line asks for: 64 equal bytes to be written, a line to be read, a pattern's word and check to be xored in, or nothing known.
-#[derive(Drop)]
+#[derive(Clone, Copy)]
 pub enum Event {
     Write {
         line: u32,

@@ -7,14 +7,14 @@ ghost use Rattle.events.specs.Numbers.{digit_of, is_numeral, is_decimal, is_hex,
 use bytes::scan::find;
 
 // What a field holds: a number, or something else.
-#[derive(Drop)]
+#[derive(Clone, Copy)]
 pub enum Number {
     Is(u64),
     Malformed,
 }
 
 // A number in the first field, and the place behind the space that ends it.
-#[derive(Drop)]
+#[derive(Clone, Copy)]
 pub enum Leading {
     Number { value: u32, next: usize },
     Malformed,

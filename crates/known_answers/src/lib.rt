@@ -1,5 +1,7 @@
 // Known answers of the code inside a chip: document 01's bench examples that are marked P, one table and one theorem over it. Beside them,
 // in `specs/FormerTable.antt`, the table of positions that the code had before document 02, Req 03.
+#![tactic(auto)]
+
 ghost use Rattle.known_answers.specs.Marked.{Marked};
 
 // The rows are document 01's cases, and each holds. The program `vectors_code` walks the same rows.

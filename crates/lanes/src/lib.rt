@@ -2,12 +2,14 @@
 // that none has its bytes swapped for it. A word is four lanes; where two words have folded their lanes, what is left of both fits one
 // number, and so for four. Every step is made of shifts, masks and xors alone, so that each bit of a word goes its own way: that
 // `check_bytes` meets its contract is proved by a test of each bit.
+#![tactic(auto)]
+
 ghost use Rattle.std.specs.Prelude.{◌≡◌, ◌^◌, ◌<◌};
 ghost use Rattle.code.specs.Code.{check_of};
 ghost use Rattle.lanes.specs.Lanes.{lanes, swapped, fold_lanes, fold_pairs, fold_halves, fold_quarters, times_byte, last_folds};
 
 // Two numbers of four lanes. Both go through the same steps side by side, so that the compiler can take them together.
-#[derive(Drop)]
+#[derive(Clone, Copy)]
 pub struct Pair {
     pub even: u64,
     pub odd: u64,

@@ -1,6 +1,8 @@
 // A visit to a line in its 81 lent bytes (document 01, "A visit to a line"; step 5 as document 02's Req 02 and Req 04 have it): what its own
 // bytes tell, and step 6. Between the two stands the diagnosis of the line's row, in crate `rows`; what a visit does to the record is in crate
 // `record`.
+#![tactic(auto)]
+
 ghost use Rattle.std.specs.Prelude.{◌≡◌, cond, ◌^◌, ◌<◌, eqb, ltb, length, get_or, set};
 ghost use Rattle.std.specs.Int.Count.{ones};
 ghost use Rattle.code.specs.Code.{check_of};
@@ -23,7 +25,7 @@ const ALL_CHIPS: u32 = 0x1ff;
 // How a visit ends. Answered: with the line. Unlocated, refusal 20 of document 01: none flagged, and the words don't xor to zero.
 // Uncorrectable, refusal 21: two or more flagged, and two or more of them are beyond mending, or none is, the mended words don't xor to zero
 // and no chip is blamed.
-#[derive(Drop)]
+#[derive(Clone, Copy)]
 pub enum Outcome {
     Answered,
     Unlocated,
@@ -32,14 +34,14 @@ pub enum Outcome {
 
 // What a line's own bytes tell. Decided: how the visit ends. Undecided: two or more flagged, none of them beyond mending, and the mended words
 // don't xor to zero, but to the number held; the other lines of the row decide.
-#[derive(Drop)]
+#[derive(Clone, Copy)]
 pub enum Finding {
     Decided(Outcome),
     Undecided(u64),
 }
 
 // What steps 1 to 5 give by the line's own bytes: also the passes made, and the flagged and collision masks, bit K for chip K.
-#[derive(Drop)]
+#[derive(Clone, Copy)]
 pub struct Examined {
     pub finding: Finding,
     pub passes: u32,
@@ -48,7 +50,7 @@ pub struct Examined {
 }
 
 // What a visit reports: its outcome, the passes made, and the two masks.
-#[derive(Drop)]
+#[derive(Clone, Copy)]
 pub struct Report {
     pub outcome: Outcome,
     pub passes: u32,

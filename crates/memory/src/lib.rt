@@ -1,4 +1,6 @@
 // One line of the lent memory (document 01, "The rank"): its 81 bytes are lent on to crates `cells`, `passes` and `line`.
+#![tactic(auto)]
+
 ghost use Rattle.std.specs.Prelude.{◌≡◌, cond, ◌+◌, ◌*◌, ◌^◌, ◌≤◌, ◌<◌, length, get_or, replicate};
 ghost use Rattle.cells.specs.Cells.{chip_bytes, chips, data_bytes, line_bytes, chip_at, codeword, line_word, stored, line_of};
 ghost use Rattle.cells.specs.Chips.{joined, mask, in_mask, AtPlaces};

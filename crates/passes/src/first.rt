@@ -8,7 +8,7 @@ use super::{equal, held_words};
 use cells::{CHIPS, masks};
 
 // What pass one gives: the chips that sent their catch-word, and the xor of the nine words sent.
-#[derive(Drop)]
+#[derive(Clone, Copy)]
 pub struct PassOne {
     pub candidates: u32,
     pub parity: u64,

@@ -9,7 +9,7 @@ use cells::{CHIP_BYTES, CHIPS, checks, masks};
 use lanes::Pair;
 
 // Those of chips 0 to 7, each in its lane as check bytes are, and that of chip 8.
-#[derive(Drop)]
+#[derive(Clone, Copy)]
 pub struct Syndromes {
     pub eight: Pair,
     pub last: u8,

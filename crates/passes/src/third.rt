@@ -11,7 +11,7 @@ use super::syndromes::Syndromes;
 use cells::{CHIPS, masks};
 
 // What pass three gives: the xor of the nine words sent, and the flagged chips that are beyond mending.
-#[derive(Drop)]
+#[derive(Clone, Copy)]
 pub struct PassThree {
     pub parity: u64,
     pub beyond: u32,

@@ -1,6 +1,8 @@
 // The six calls that firmware links (document 01, "The calls"): each is tested for its refusals, and its work is done by a crate below. No
 // call has a `requires`: each says for every input what it returns and what every byte lent to be written is afterwards. What is lent by `&`
 // can't be written.
+#![tactic(auto)]
+
 ghost use Rattle.std.specs.Prelude.{◌≡◌};
 ghost use Rattle.rank.specs.Calls.{boot_of, write_of, read_of, patrol_of, renew_of, fault_of, interface_version};
 
@@ -13,7 +15,7 @@ const INTERFACE_VERSION: u32 = 3;
 
 // What boot, write, renew and fault return: a refusal by its number in document 01, 0 for none, and the record.
 #[repr(C)]
-#[derive(Drop)]
+#[derive(Clone, Copy)]
 pub struct Called {
     pub refusal: u32,
     pub rank: Rank,
@@ -21,7 +23,7 @@ pub struct Called {
 
 // What a patrol returns: also the lines visited, the lines refused and the words rewritten.
 #[repr(C)]
-#[derive(Drop)]
+#[derive(Clone, Copy)]
 pub struct PatrolResult {
     pub refusal: u32,
     pub visited: u32,

@@ -1,5 +1,7 @@
 // What the programs `vectors_rank` and `vectors_rows` are written in: the calls on a rank of four lines, one after another, each compared
 // with what is due.
+#![tactic(auto)]
+
 use record::Rank;
 
 // The catch-words of document 01's bench.
@@ -8,7 +10,7 @@ pub const CATCH_WORD: u64 = 0x1111_1111_1111_1111;
 type Memory = [u8; 324];
 
 // The record and the memory as the last call left them, the calls made, and how many of them did what was due.
-#[derive(Drop)]
+#[derive(Clone, Copy)]
 pub struct Session {
     pub rank: Rank,
     pub memory: Memory,

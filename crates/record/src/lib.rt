@@ -1,4 +1,6 @@
 // The record (document 01, "The rank"), its limits and its fresh value, and what boot, a visit and renew make of it.
+#![tactic(auto)]
+
 ghost use Rattle.std.specs.Prelude.{◌≡◌, ◌+◌, ◌/◌, ◌<◌, ◌≤◌, min, cond, length, if◌then◌else◌, ◌==◌, slice_index};
 ghost use Rattle.cells.specs.Cells.{chips, line_bytes};
 ghost use Rattle.record.specs.Record.{line_limit, task_limit, total_limit, booted, accepted, grown, moved, moved_by, counted, counted_by, renewed, fresh, is_line_count, is_task};
@@ -8,7 +10,7 @@ use cells::{CHIPS, LINE_BYTES};
 // The record, held by value: N, the Enable bit, the catch-words as the controller knows them, the registers as the chips hold them, and a
 // repair total for each task.
 #[repr(C)]
-#[derive(Drop)]
+#[derive(Clone, Copy)]
 pub struct Rank {
     pub lines: u32,
     pub enable: bool,

@@ -1,4 +1,6 @@
 // The refusals of each call, in document 01's order with document 02's numbers in it: their number, 0 for none.
+#![tactic(auto)]
+
 ghost use Rattle.std.specs.Prelude.{◌≡◌, not, [], ◌∷◌, eqb, ltb, get_or};
 ghost use Rattle.cells.specs.Cells.{chips};
 ghost use Rattle.cells.specs.Chips.{count};

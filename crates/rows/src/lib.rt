@@ -1,5 +1,7 @@
 // The diagnosis of a row (document 02, Req 04; inter-line diagnosis in source document 000): which chip is blamed, by the words flagged on the
 // other lines, and its word. Passes over the other lines renew no catch-word and write nothing.
+#![tactic(auto)]
+
 ghost use Rattle.std.specs.Prelude.{◌≡◌, cond, ◌+◌, ◌-◌, ◌*◌, ◌^◌, ◌≤◌, ◌<◌, min, eqb, leb, length, get_or, set};
 ghost use Rattle.std.specs.Int.Bits.{bit_and, bit_xor};
 ghost use Rattle.std.specs.Int.Count.{ones, count_trailing_zeros};
@@ -23,7 +25,7 @@ use line::Outcome;
 const ROW_LINES: u32 = 128;
 
 // How a visit ends, and the passes made over the other lines of the row.
-#[derive(Drop)]
+#[derive(Clone, Copy)]
 pub struct Decision {
     pub outcome: Outcome,
     pub passes: u32,

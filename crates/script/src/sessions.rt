@@ -12,7 +12,7 @@ pub const KEPT: usize = 41;
 
 // How far a run has come: the record, the bytes kept of the line that has begun, the bytes taken up of the input's part, and the bytes of
 // output.
-#[derive(Drop)]
+#[derive(Clone, Copy)]
 pub struct Progress {
     pub rank: Rank,
     pub kept: usize,

@@ -1,5 +1,7 @@
 // A visit to a line of the lent memory (document 01, "A visit to a line"), steps 1 to 6. Where the line's own bytes leave the outcome undecided,
 // its row is diagnosed (document 02, Req 04, crate `rows`).
+#![tactic(auto)]
+
 ghost use Rattle.std.specs.Prelude.{◌≡◌, ◌+◌, ◌*◌, ◌≤◌, ◌<◌, length};
 ghost use Rattle.cells.specs.Chips.{AtPlaces};
 ghost use Rattle.cells.specs.Cells.{chips, line_bytes};

@@ -1,4 +1,6 @@
 // What is printed for a line, laid in bytes from a place on. Every function here answers the place behind what it laid.
+#![tactic(auto)]
+
 ghost use Rattle.std.specs.Prelude.{◌≡◌, ◌∷◌, ◌+◌, ◌^◌, ◌≤◌, ◌<◌, length};
 ghost use Rattle.events.specs.Fields.{space};
 ghost use Rattle.texts.specs.Texts.{hex_text, decimal_text, call_text, visit_text, read_text, unknown_text, longest_text, Laid};

@@ -1,5 +1,7 @@
 // What the programs `vectors_code`, `vectors_line`, `vectors_rank` and `vectors_rows` share: words of a fixed sequence, a CRC-8 made
 // another way than that of `code`, and the line of output that says how many trials of a kind succeeded.
+#![tactic(auto)]
+
 use libc::STDOUT_FILENO;
 
 // Prints what was tried, how many trials succeeded, and of how many.

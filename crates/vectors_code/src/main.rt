@@ -1,12 +1,14 @@
 // The code inside a chip, tried at run time: against document 01's marked examples, against a CRC-8 made another way and against the former
 // table of positions. Each line of output says what was tried, how many trials succeeded, and of how many.
+#![tactic(auto)]
+
 use code::Status;
 use trials::{remainder, word_of};
 
 mod former;
 
 // What is tried. Trials of a kind are numbered from 0.
-#[derive(Drop)]
+#[derive(Clone, Copy)]
 enum Trial {
     // A row of document 01's marked examples.
     Marked,

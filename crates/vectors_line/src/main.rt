@@ -1,5 +1,7 @@
 // Lines laid and read back, and visits to a line, tried at run time on lines that are made with another CRC-8. Each line of output says what
 // was tried, how many trials succeeded, and of how many.
+#![tactic(auto)]
+
 mod lines;
 mod visits;
 

@@ -1,4 +1,6 @@
 // The calls on a rank, tried at run time. Each line of output says what was tried, how many trials succeeded, and of how many.
+#![tactic(auto)]
+
 use rank_trials::{booted, report};
 
 mod refused;

@@ -1,5 +1,7 @@
 // Row diagnosis (document 02, Req 04), tried at run time. Each line of output says what was tried, how many trials succeeded, and of how
 // many.
+#![tactic(auto)]
+
 use rank_trials::{Session, booted, fault, read, report};
 
 mod hits;

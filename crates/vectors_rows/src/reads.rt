@@ -9,7 +9,7 @@ use record::Rank;
 const NONE: [u32; 3] = [0, 0, 0];
 
 // What is hit: N and the wanted line; then, twice, a chip and the lines.
-#[derive(Drop)]
+#[derive(Clone, Copy)]
 struct Damage {
     wanted: [u32; 2],
     hit: [u32; 3],

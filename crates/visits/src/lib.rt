@@ -1,6 +1,8 @@
 // Visits to lines of the lent memory with the record (document 01, "The calls"; document 02, Req 01): the one visit, and over it an
 // accepted read and the visits of an accepted patrol. Both ask first whether a line is clean (`memory::is_clean`): a visit would then
 // change nothing.
+#![tactic(auto)]
+
 ghost use Rattle.std.specs.Prelude.{◌≡◌, ◌*◌, ◌≤◌, ◌<◌, length};
 ghost use Rattle.cells.specs.Cells.{chips, line_bytes};
 ghost use Rattle.memory.specs.Lines.{with_line};
@@ -17,7 +19,7 @@ pub mod sweep;
 // What a read returns: a refusal by its number in document 01, 0 for none, the passes made, the flagged and collision masks, bit K for chip K,
 // and the record.
 #[repr(C)]
-#[derive(Drop)]
+#[derive(Clone, Copy)]
 pub struct ReadResult {
     pub refusal: u32,
     pub passes: u32,

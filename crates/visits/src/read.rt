@@ -11,7 +11,7 @@ use cells::CHIPS;
 use line::Outcome;
 
 // What a read reports: a refusal by its number in document 01, 0 for none, the passes made and the two masks.
-#[derive(Drop)]
+#[derive(Clone, Copy)]
 pub struct Visited {
     pub refusal: u32,
     pub passes: u32,

@@ -12,14 +12,14 @@ use line::{Outcome, Report};
 use record::Rank;
 
 // What a patrol has counted so far: the lines refused and the words rewritten.
-#[derive(Drop)]
+#[derive(Clone, Copy)]
 pub struct Counts {
     pub refused: u32,
     pub rewritten: u32,
 }
 
 // What the visits of a patrol come to: the counts, and the record.
-#[derive(Drop)]
+#[derive(Clone, Copy)]
 pub struct Tally {
     pub refused: u32,
     pub rewritten: u32,

@@ -1,6 +1,8 @@
 // A word of 64 bits in eight lent bytes, highest or lowest byte first. A word is loaded and stored lowest byte first, and its bytes are
 // swapped between: the compiler makes one instruction of each wherever they are inlined, which it does not of bytes that are put together
 // highest first.
+#![tactic(auto)]
+
 ghost use Rattle.std.specs.Prelude.{◌≡◌, ◌∷◌, [], reverse, ◌+◌, ◌%◌, ◌≤◌, ◌<◌, length, set};
 ghost use Rattle.std.proofs.lemmas.List.Edits.{sets};
 ghost use Rattle.words.specs.Bytes.{number_of, bytes_of, bytes_from};
