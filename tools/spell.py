@@ -12,6 +12,9 @@ import os
 import re
 import sys
 
+# Definitions whose new names port.py gave to lemmas of other modules: there the lemma makes room.
+FIRST = ("allTyped", "bytesAfter", "foundAfter", "heldWord", "premiseHolds")
+
 WORD = r"[^\s(){}.;,@\"«»`\[\]\\]+"
 DECLARED = re.compile(r"^[ ]*(?:(?:abbrev|unfoldable|pub)[ ]+)*(%s)[ ]+:[ ]+(\S*)" % WORD, re.M)
 LOCAL = re.compile(r"\blet (%s)[ ]+[:=] " % WORD)
@@ -67,8 +70,10 @@ def table(root):
             declared.add(m.group(1))
         declared.update(LOCAL.findall(text))
     renamed = {n for n in declared if old(n)}
-    new = {}
-    taken = {n for n in declared if n not in renamed}
+    new = {snake(n): snake(n) + "_lem" for n in FIRST}
+    new.update({n: snake(n) for n in FIRST})
+    renamed.difference_update(new)
+    taken = {n for n in declared if n not in renamed and n not in new}
     for name in sorted(renamed, key=lambda n: ("-" in n, n)):
         to = snake(name)
         if to in taken or to in new.values():

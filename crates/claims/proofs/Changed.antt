@@ -14,7 +14,7 @@ use Rattle.cells.specs.Cells.{chip_at}
 use Rattle.words.specs.Bytes.{number_of, Bytes}
 use Rattle.cells.specs.ChipLaws.{count_zero}
 use Rattle.line.specs.Blame.{Evidence}
-use Rattle.line.specs.Visit.{bytes_after_lem}
+use Rattle.line.specs.Visit.{bytes_after}
 use Rattle.line.specs.AnsweredLaws.{length_after}
 use Rattle.visits.specs.Runs.{outs, end}
 use Rattle.code.specs.ListLaws.{sum_range}
@@ -120,7 +120,7 @@ module _ (n : ℕ) where
     visits_changed (suc k) l d size bytes in_n =
         ap₂ (λ (i j : ℕ). i + j)
         (rewritten_changed ev x cws eighty_one (bytes_line d.memory l bytes)
-        ∙ sym (line_changed d.memory l (bytes_after_lem ev x cws) size here (length_after ev x cws eighty_one)))
+        ∙ sym (line_changed d.memory l (bytes_after ev x cws) size here (length_after ev x cws eighty_one)))
         (visits_changed k (suc l) e sized (visit_bytes task d l bytes) more)
         ∙ sym (lines_both d.memory e.memory last (λ j. by j (ltb l j) refl))
       where

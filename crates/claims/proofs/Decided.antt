@@ -56,11 +56,11 @@ row_holds_lem p l e d k b c =
     not-false (wide (p.plain_line l) k)
     (sym (ap (λ (t : Bool). t && not (wide (p.plain_line l) k)) c) ∙ count_none (wronged p l) 9 none k b)
 
-abbrev pub premise_holds_lem : Plain → ℕ → Bool
-premise_holds_lem p l = line_holds (p.plain_line l) && row_holds p l
+abbrev pub premise_holds : Plain → ℕ → Bool
+premise_holds p l = line_holds (p.plain_line l) && row_holds p l
 
-pub premise_holds : (p : Plain) (l : ℕ) → premise_holds_lem p l ≡ true → Premise p l
-premise_holds p l e =
+pub premise_holds_lem : (p : Plain) (l : ℕ) → premise_holds p l ≡ true → Premise p l
+premise_holds_lem p l e =
     record {
       line = line_holds_lem (p.plain_line l) (and_first (line_holds (p.plain_line l)) (row_holds p l) e);
       only_wide = row_holds_lem p l (and_second (line_holds (p.plain_line l)) (row_holds p l) e);
@@ -68,14 +68,14 @@ premise_holds p l e =
 
 abbrev pub visits_hold : Plain → List ℕ → Bool
 visits_hold p [] = true
-visits_hold p (l ∷ ls) = premise_holds_lem p l && visits_hold (plain_visit p l).now ls
+visits_hold p (l ∷ ls) = premise_holds p l && visits_hold (plain_visit p l).now ls
 
 visits_hold_lem : (ls : List ℕ) (p : Plain) → visits_hold p ls ≡ true → AtVisits p ls
 visits_hold_lem [] p e = tt
 visits_hold_lem (l ∷ ls) p e =
     let rest : Bool = visits_hold (plain_visit p l).now ls in (
-      premise_holds p l (and_first (premise_holds_lem p l) rest e),
-      visits_hold_lem ls (plain_visit p l).now (and_second (premise_holds_lem p l) rest e),
+      premise_holds_lem p l (and_first (premise_holds p l) rest e),
+      visits_hold_lem ls (plain_visit p l).now (and_second (premise_holds p l) rest e),
     )
 
 abbrev pub call_holds : ℕ → Plain → Call → Bool
@@ -123,10 +123,10 @@ is_typed_lem (patrol task first budget) e = tt
 is_typed_lem (renew k w) e = tt
 is_typed_lem (fault l k q) e = bytes_hold_lem q e
 
-abbrev pub all_typed_lem : List Call → Bool
-all_typed_lem [] = true
-all_typed_lem (c ∷ cs) = is_typed c && all_typed_lem cs
+abbrev pub all_typed : List Call → Bool
+all_typed [] = true
+all_typed (c ∷ cs) = is_typed c && all_typed cs
 
-pub all_typed : (cs : List Call) → all_typed_lem cs ≡ true → Every Typed cs
-all_typed [] e = tt
-all_typed (c ∷ cs) e = (is_typed_lem c (and_first (is_typed c) (all_typed_lem cs) e), all_typed cs (and_second (is_typed c) (all_typed_lem cs) e))
+pub all_typed_lem : (cs : List Call) → all_typed cs ≡ true → Every Typed cs
+all_typed_lem [] e = tt
+all_typed_lem (c ∷ cs) e = (is_typed_lem c (and_first (is_typed c) (all_typed cs) e), all_typed_lem cs (and_second (is_typed c) (all_typed cs) e))

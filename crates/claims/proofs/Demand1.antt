@@ -8,7 +8,7 @@ use Prim.Native.Nat.{ℕ, zero, suc}
 use native.Mathlib.Omega.{arith}
 use Rattle.code.specs.Lists.{Every}
 use Rattle.line.specs.Blame.{Evidence}
-use Rattle.line.specs.Visit.{outcome_of, if_answered, written_back, bytes_after_lem, report_of, refusal_of}
+use Rattle.line.specs.Visit.{outcome_of, if_answered, written_back, bytes_after, report_of, refusal_of}
 use Rattle.line.specs.declared.Report.{Report}
 use Rattle.line.specs.declared.Outcome.{Outcome}
 use Rattle.line.specs.declared.Outcome.TheVariants.{Answered, Unlocated, Uncorrectable}
@@ -91,7 +91,7 @@ visit_keeps Unlocated h a a' b b' c c' = (refl, refl, refl)
 visit_keeps Uncorrectable h a a' b b' c c' = (refl, refl, refl)
 
 pub read_refusals : (r : Rank) (m : List ℕ) (task l : ℕ) (b : List ℕ) → ReadRefusals r m task l b
-unfolding read_of read_by result_of visit_of report_in report_of bytes_in bytes_after_lem after_visit read_tests read_refusal
+unfolding read_of read_by result_of visit_of report_in report_of bytes_in bytes_after after_visit read_tests read_refusal
 read_refusals r m task l b =
     record {
       number = number;

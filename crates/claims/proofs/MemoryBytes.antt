@@ -14,7 +14,7 @@ use Rattle.cells.specs.Cells.{chip_at, codeword, with_chip, line_word, stored}
 use Rattle.cells.specs.CellLaws.{bytes_codeword}
 use Rattle.passes.specs.Passes.{is_flagged}
 use Rattle.line.specs.Blame.{Evidence}
-use Rattle.line.specs.Visit.{outcome_of, word_of, with_words, written_back, bytes_after_lem}
+use Rattle.line.specs.Visit.{outcome_of, word_of, with_words, written_back, bytes_after}
 use Rattle.line.specs.OutcomeLaws.{either_answered}
 use Rattle.visits.specs.Runs.{Did, end}
 use Rattle.memory.specs.Lines.{line_at, with_line, faulted}
@@ -72,9 +72,9 @@ unfolding faulted with_chip
 bytes_faulted x k q h g = bytes_sets (xor_bytes (chip_at x k) q) x (9 * k) h (bytes_xor (chip_at x k) q (bytes_chip x k h) g)
 
 -- a line after a visit
-bytes_after : (e : Evidence) (x cws : List ℕ) → Bytes x → Bytes (bytes_after_lem e x cws)
-unfolding bytes_after_lem written_back with_words
-bytes_after e x cws h = either_answered Bytes (outcome_of e x cws) (bytes_joined _ 9 (λ k. either k (is_flagged x cws k))) h
+bytes_after_lem : (e : Evidence) (x cws : List ℕ) → Bytes x → Bytes (bytes_after e x cws)
+unfolding bytes_after written_back with_words
+bytes_after_lem e x cws h = either_answered Bytes (outcome_of e x cws) (bytes_joined _ 9 (λ k. either k (is_flagged x cws k))) h
   where
     either : (k : ℕ) (b : Bool) → Bytes (cond b (codeword (word_of e x cws k)) (chip_at x k))
     either k true = bytes_codeword (word_of e x cws k)
@@ -85,7 +85,7 @@ bytes_after e x cws h = either_answered Bytes (outcome_of e x cws) (bytes_joined
 -- the memory after a visit
 pub visit_bytes : (task : ℕ) (d : Device) (l : ℕ) → Bytes d.memory → Bytes (visit_of task d l).now.memory
 unfolding visit_of bytes_in
-visit_bytes task d l h = bytes_laid d.memory l _ h (bytes_after _ (line_at d.memory l) _ (bytes_line d.memory l h))
+visit_bytes task d l h = bytes_laid d.memory l _ h (bytes_after_lem _ (line_at d.memory l) _ (bytes_line d.memory l h))
 
 -- after several
 visits_bytes : (task : ℕ) (ls : List ℕ) (d : Device) → Bytes d.memory → Bytes (end (visit_of task) d ls).memory

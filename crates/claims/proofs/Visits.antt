@@ -20,7 +20,7 @@ use Rattle.cells.specs.CellLaws.{joined_blocks, length_eight, line_word_eight}
 use Rattle.passes.specs.Passes.{is_flagged, beyond_chips}
 use Rattle.line.specs.Blame.{Evidence, is_blamed, blamed_chips}
 use Rattle.line.specs.Damage.{Parity, Tolerated, Answerable, LeftUndecided}
-use Rattle.line.specs.Visit.{outcome_of, word_of, bytes_after_lem, report_of}
+use Rattle.line.specs.Visit.{outcome_of, word_of, bytes_after, report_of}
 use Rattle.line.specs.OutcomeLaws.{either_answered}
 use Rattle.line.specs.DamageLaws.{line_parity}
 use Rattle.line.specs.ToleratedLaws.{Restores, visit_answers, visit_diagnosed, visit_refuses, visit_kept, visit_beyond, visit_flagged}
@@ -44,7 +44,7 @@ use Rattle.claims.proofs.Related.{Formed, Ready, Holds, Related, formed_undamage
 -- what a visit to it comes to, by what is counted over its row: it ends as the plain memory says, with its bytes if it is answered
 pub record Same (x : Line) (e : Evidence) (cws : List ℕ) (a : Bool) : Type 0 where
   pub outcome : outcome_of e (laid x) cws ≡ cond a Answered Uncorrectable
-  pub bytes : bytes_after_lem e (laid x) cws ≡ cond a (stored (line_word x.bytes)) (laid x)
+  pub bytes : bytes_after e (laid x) cws ≡ cond a (stored (line_word x.bytes)) (laid x)
   pub word : a ≡ true → (k : ℕ) → k < 9 → word_of e (laid x) cws k ≡ line_word x.bytes k
 
 module _ (x : Line) (f : Formed x) (h : LinePremise x) where
@@ -179,7 +179,7 @@ module _ (n task : ℕ) (d : Device) (p : Plain) (l : ℕ) (in_n : l < n) (r : R
   visited_bytes : bytes_in d.rank.lines d.memory l cws
       ≡ cond (answers p l) (stored (line_word (p.plain_line l).bytes)) (laid (p.plain_line l))
   unfolding bytes_in evidence
-  visited_bytes = ap (λ (m : List ℕ). bytes_after_lem evidence m cws) lies ∙ line_same.bytes
+  visited_bytes = ap (λ (m : List ℕ). bytes_after evidence m cws) lies ∙ line_same.bytes
 
   -- the line after it, in both
   holds_visited : (a : Bool) (bs : List ℕ) → bs ≡ cond a (stored (line_word (p.plain_line l).bytes)) (laid (p.plain_line l))

@@ -13,7 +13,7 @@ use Rattle.cells.specs.Chips.{count, of_chips, joined, xor_all, mask, in_mask}
 use Rattle.words.specs.Bytes.{number_of, bytes_of, bytes_from}
 use Rattle.cells.specs.Cells.{chip_at, word_at, check_at, cell_at, codeword, with_chip}
 use Rattle.passes.specs.Passes.{sends, sent_at, catch_word, pass_one, is_candidate, complement, pass_two, sent_complement, is_flagged, is_collision, flagged_chips, xor_others}
-use Rattle.line.specs.Visit.{must_cancel, finding_by, own_word_by, finding_of, own_word, own_passes, outcome_by, word_by, row_passes, outcome_of, word_of, with_words, written_back, bytes_after_lem, report_of, refusal_of}
+use Rattle.line.specs.Visit.{must_cancel, finding_by, own_word_by, finding_of, own_word, own_passes, outcome_by, word_by, row_passes, outcome_of, word_of, with_words, written_back, bytes_after, report_of, refusal_of}
 use Rattle.visits.specs.Runs.{outs}
 use Rattle.rows.specs.Rows.{report_in, bytes_in}
 use Rattle.memory.specs.Lines.{line_at, with_line, faulted}
@@ -55,7 +55,7 @@ unfolding booted device_reports reported_by device_call patrol_of patrol_by patr
     read_by result_of read_tests fault_of fault_by faulted fault_refusal line_out buffer_out chip_out pattern_out not_ready memory_differs
     register_differs task_out visit_of after_visit after_answer moved grown counted line_at with_line sends sent_at catch_word pass_one is_candidate
     complement pass_two sent_complement is_flagged is_collision flagged_chips must_cancel xor_others finding_by own_word_by finding_of own_word
-    own_passes outcome_by word_by row_passes outcome_of word_of report_in bytes_in with_words written_back bytes_after_lem report_of refusal_of count of_chips
+    own_passes outcome_by word_by row_passes outcome_of word_of report_in bytes_in with_words written_back bytes_after report_of refusal_of count of_chips
     joined xor_all mask in_mask number_of bytes_of bytes_from chip_at word_at check_at cell_at codeword with_chip is_codeword syndrome_of remainder
     remainder_in times_x check_of ones ones_in
 collision-shown = (refl, refl, refl)

@@ -15,7 +15,7 @@ use Rattle.words.specs.Bytes.{number_of, bytes_of, bytes_from}
 use Rattle.cells.specs.Cells.{chip_at, word_at, check_at, cell_at, codeword, with_chip}
 use Rattle.passes.specs.Passes.{sends, sent_at, catch_word, pass_one, is_candidate, complement, pass_two, sent_complement, is_flagged, is_collision, flagged_chips, xor_others, pass_three, chip_status, is_flagged_beyond, beyond_chips}
 use Rattle.line.specs.Blame.{reaches, other_reaches, is_blamed, blamed_chips}
-use Rattle.line.specs.Visit.{must_cancel, third_finding, third_word, finding_by, own_word_by, finding_of, own_word, own_passes, outcome_by, word_by, row_passes, outcome_of, word_of, with_words, written_back, bytes_after_lem, report_of, refusal_of}
+use Rattle.line.specs.Visit.{must_cancel, third_finding, third_word, finding_by, own_word_by, finding_of, own_word, own_passes, outcome_by, word_by, row_passes, outcome_of, word_of, with_words, written_back, bytes_after, report_of, refusal_of}
 use Rattle.line.specs.FormerVisit.{former_outcome_by, third_before_rows, outcome_before_rows_by, outcome_before_rows}
 use Rattle.line.specs.declared.Outcome.TheVariants.{Uncorrectable}
 use Rattle.visits.specs.Runs.{outs, end}
@@ -47,7 +47,7 @@ unfolding booted_device boot_of boot_by boot_refusal memory_out catch_words_out 
     visit_of after_visit after_answer moved grown counted line_at with_line sends sent_at catch_word pass_one is_candidate complement pass_two sent_complement
     is_flagged is_collision flagged_chips must_cancel xor_others pass_three chip_status is_flagged_beyond beyond_chips third_finding third_word status_of
     status_at is_beyond finding_by own_word_by finding_of own_word own_passes outcome_by word_by row_passes outcome_of word_of report_in word_in bytes_in evidence_of other_lines row_first row_size
-    is_blamed blamed_chips reaches other_reaches with_words written_back bytes_after_lem report_of refusal_of
+    is_blamed blamed_chips reaches other_reaches with_words written_back bytes_after report_of refusal_of
     count of_chips joined xor_all mask in_mask number_of bytes_of bytes_from chip_at word_at check_at cell_at codeword with_chip is_codeword
     syndrome_of remainder remainder_in times_x syndrome_at position_from position_of bit_at mended mended_word check_of ones ones_in
     former_outcome_by third_before_rows outcome_before_rows_by outcome_before_rows

@@ -14,7 +14,7 @@ use Rattle.words.specs.Bytes.{number_of, bytes_of, bytes_from}
 use Rattle.cells.specs.Cells.{chip_at, word_at, check_at, cell_at, codeword, with_chip}
 use Rattle.passes.specs.Passes.{sends, sent_at, catch_word, pass_one, is_candidate, complement, pass_two, sent_complement, is_flagged, is_collision, flagged_chips, xor_others, pass_three, chip_status, is_flagged_beyond, beyond_chips}
 use Rattle.line.specs.Blame.{reaches, other_reaches, is_blamed, blamed_chips}
-use Rattle.line.specs.Visit.{must_cancel, third_finding, third_word, finding_by, own_word_by, finding_of, own_word, own_passes, outcome_by, word_by, row_passes, outcome_of, word_of, with_words, written_back, bytes_after_lem, report_of, refusal_of}
+use Rattle.line.specs.Visit.{must_cancel, third_finding, third_word, finding_by, own_word_by, finding_of, own_word, own_passes, outcome_by, word_by, row_passes, outcome_of, word_of, with_words, written_back, bytes_after, report_of, refusal_of}
 use Rattle.visits.specs.Runs.{end}
 use Rattle.code.specs.Lists.{sum_of}
 use Rattle.rows.specs.Rows.{row_first, row_size, other_lines, evidence_of, report_in, word_in, bytes_in}
@@ -26,7 +26,7 @@ use Rattle.rank.specs.Calls.{boot_by, boot_of, read_of, patrolled, patrol_lines,
 use Rattle.claims.specs.Lists.{Call, read, patrol, fault, device_call}
 use Rattle.claims.specs.Claim.{booted_device}
 use Rattle.claims.specs.Tasks.{Counting, rewrites, changed_by, tasks, total_of, after, all_rewritten, Counted, with_task, any_task, TasksAlike}
-use Rattle.claims.proofs.Decided.{bytes_hold_lem, all_typed}
+use Rattle.claims.proofs.Decided.{bytes_hold_lem, all_typed_lem}
 use Rattle.examples.proofs.Examples.{buffer, wide_pattern, narrow_pattern, catch_words}
 use Rattle.claims.proofs.Tasks.{tasks_alike}
 use Rattle.claims.proofs.Totals.{totals_counted}
@@ -66,7 +66,7 @@ unfolding after booted_device boot_of boot_by boot_refusal memory_out catch_word
     not_ready memory_differs register_differs task_out visit_of after_visit after_answer moved grown counted line_at with_line sends sent_at catch_word
     pass_one is_candidate complement pass_two sent_complement is_flagged is_collision flagged_chips must_cancel xor_others pass_three chip_status is_flagged_beyond
     beyond_chips third_finding third_word status_of status_at is_beyond finding_by own_word_by finding_of own_word own_passes outcome_by word_by row_passes outcome_of word_of report_in word_in bytes_in evidence_of other_lines row_first row_size
-    is_blamed blamed_chips reaches other_reaches with_words written_back bytes_after_lem report_of refusal_of count of_chips joined xor_all mask in_mask number_of bytes_of
+    is_blamed blamed_chips reaches other_reaches with_words written_back bytes_after report_of refusal_of count of_chips joined xor_all mask in_mask number_of bytes_of
     bytes_from chip_at word_at check_at cell_at codeword with_chip is_codeword syndrome_of remainder remainder_in times_x syndrome_at position_from
     position_of bit_at mended mended_word check_of ones ones_in
 totals_shown = (refl, refl)
@@ -76,7 +76,7 @@ pub sum_shown : (all_rewritten memory catch_words task_calls rewrites ≡ 3) × 
 unfolding total_of
 sum_shown = (
   three rewrites (totals_counted memory catch_words task_calls),
-  three changed_by (totals_changed memory catch_words task_calls (all_typed task_calls refl)),
+  three changed_by (totals_changed memory catch_words task_calls (all_typed_lem task_calls refl)),
 )
   where
     below_limit : (t : ℕ) → t < 8 → total_of t (after memory catch_words task_calls) < total_limit

@@ -8,7 +8,7 @@ use Rattle.cells.specs.ChipLaws.{count_ext}
 use Rattle.passes.specs.Passes.{is_candidate, is_flagged, is_unsound, holds_catch_word}
 use Rattle.passes.specs.PassLaws.{candidate_is, flagged_mask_lem, flagged_count}
 use Rattle.line.specs.Blame.{Evidence}
-use Rattle.line.specs.Visit.{outcome_of, word_of, bytes_after_lem, own_passes}
+use Rattle.line.specs.Visit.{outcome_of, word_of, bytes_after, own_passes}
 use Rattle.line.specs.ClosedFormLaws.{outcome_is, word_is, bytes_is}
 
 -- ---- two lists of catch-words
@@ -23,7 +23,7 @@ module _ (e : Evidence) (m c d : List ℕ) where
   word_free k h = word_is m c e k h ∙ sym (word_is m d e k h)
 
   -- so are the bytes after the visit
-  pub bytes_free : bytes_after_lem e m c ≡ bytes_after_lem e m d
+  pub bytes_free : bytes_after e m c ≡ bytes_after e m d
   bytes_free = bytes_is m c e ∙ sym (bytes_is m d e)
 
   -- so is the mask of the flagged chips

@@ -12,7 +12,7 @@ use Rattle.passes.specs.Passes.{is_candidate, sent_complement, is_flagged, is_co
 use Rattle.passes.specs.Scan.{is_clean}
 use Rattle.passes.specs.ScanLaws.{clean_none, clean_parity}
 use Rattle.line.specs.Blame.{Evidence}
-use Rattle.line.specs.Visit.{must_cancel, finding_by, finding_of, outcome_by, outcome_of, if_answered, with_words, written_back, bytes_after_lem, own_passes, row_passes, report_of}
+use Rattle.line.specs.Visit.{must_cancel, finding_by, finding_of, outcome_by, outcome_of, if_answered, with_words, written_back, bytes_after, own_passes, row_passes, report_of}
 use Rattle.line.specs.declared.Outcome.{Outcome}
 use Rattle.line.specs.declared.Outcome.TheVariants.{Answered, Unlocated}
 use Rattle.line.specs.declared.Finding.{Finding}
@@ -57,8 +57,8 @@ module _ (m cws : List ℕ) (clean : is_clean m cws ≡ true) where
     clean_report =
         λ i. record { outcome = answered i; passes = one_pass i + row_passes (found i) e; flagged = no_flag i; collisions = no_collision i }
 
-    pub clean_bytes : length m ≡ 81 → bytes_after_lem e m cws ≡ m
-    unfolding bytes_after_lem written_back with_words is_flagged
+    pub clean_bytes : length m ≡ 81 → bytes_after e m cws ≡ m
+    unfolding bytes_after written_back with_words is_flagged
     clean_bytes size =
         ap (λ (o : Outcome). if_answered o (written_back e m cws) m) answered
         ∙ sym (joined_ext (chip_at m) _ 9 (λ k l. rw (no_candidate k (sent_complement m cws k) l)))

@@ -9,10 +9,10 @@ use Prim.Native.Nat.{ℕ, zero, suc, ◌<◌}
 use Rattle.cells.specs.Chips.{joined, xor_all, count}
 use Rattle.cells.specs.Cells.{chip_at, codeword}
 use Rattle.cells.specs.ChipLaws.{joined_ext, xor_all_ext, count_ext, count_none}
-use Rattle.passes.specs.Passes.{sends, sent_at, pass_one, is_flagged, xor_others, pass_three, is_unsound, held_word_lem, mended_at, beyond_at}
+use Rattle.passes.specs.Passes.{sends, sent_at, pass_one, is_flagged, xor_others, pass_three, is_unsound, held_word, mended_at, beyond_at}
 use Rattle.passes.specs.PassLaws.{sent_word, flagged_is, flagged_count, flagged_beyond_is, beyond_chips_count, others_ext, others_sound}
 use Rattle.line.specs.Blame.{Evidence, reaches, other_reaches, is_blamed, blamed_chips}
-use Rattle.line.specs.Visit.{must_cancel, third_finding, third_word, finding_by, own_word_by, finding_of, own_word, outcome_by, word_by, outcome_of, word_of, if_answered, with_words, written_back, bytes_after_lem}
+use Rattle.line.specs.Visit.{must_cancel, third_finding, third_word, finding_by, own_word_by, finding_of, own_word, outcome_by, word_by, outcome_of, word_of, if_answered, with_words, written_back, bytes_after}
 use Rattle.line.specs.declared.Outcome.{Outcome}
 use Rattle.line.specs.declared.Outcome.TheVariants.{Answered, Unlocated, Uncorrectable}
 use Rattle.line.specs.declared.Finding.{Finding}
@@ -35,14 +35,14 @@ third_word_with (suc (suc n)) m k = mended_at m k
 
 -- what the line's own bytes tell, by how many chips hold no codeword
 unfoldable pub finding_with : ℕ → List ℕ → Finding
-finding_with zero m = must_cancel (held_word_lem m) (Decided Unlocated)
+finding_with zero m = must_cancel (held_word m) (Decided Unlocated)
 finding_with (suc zero) m = Decided Answered
 finding_with (suc (suc n)) m = third_finding_with (count (beyond_at m) 9) m
 
 -- chip k's word by them
 unfoldable pub own_word_with : ℕ → List ℕ → ℕ → ℕ
-own_word_with zero m k = held_word_lem m k
-own_word_with (suc zero) m k = cond (is_unsound m k) (xor_others (held_word_lem m) k) (held_word_lem m k)
+own_word_with zero m k = held_word m k
+own_word_with (suc zero) m k = cond (is_unsound m k) (xor_others (held_word m) k) (held_word m k)
 own_word_with (suc (suc n)) m k = third_word_with (count (beyond_at m) 9) m k
 
 unfoldable pub finding_for : List ℕ → Finding
@@ -84,7 +84,7 @@ module _ (m cws : List ℕ) where
 
   finding_by_lem : (n : ℕ) → count (is_unsound m) 9 ≡ n → finding_by n m cws ≡ finding_with n m
   unfolding finding_by finding_with must_cancel
-  finding_by_lem zero c = rw (xor_all_ext (pass_one m cws) (held_word_lem m) 9 (λ k h. sent_word m cws k (count_none (is_unsound m) 9 c k h)))
+  finding_by_lem zero c = rw (xor_all_ext (pass_one m cws) (held_word m) 9 (λ k h. sent_word m cws k (count_none (is_unsound m) 9 c k h)))
   finding_by_lem (suc zero) c = refl
   finding_by_lem (suc (suc n)) c = rw (beyond_chips_count m cws) (third_finding_lem (count (beyond_at m) 9))
 
@@ -105,8 +105,8 @@ module _ (m cws : List ℕ) where
   own_word_by_lem (suc zero) c k h = rw (flagged_is m cws k) (pick (is_unsound m k) refl)
     where
       pick : (b : Bool) → is_unsound m k ≡ b
-          → cond b (xor_others (pass_one m cws) k) (pass_one m cws k) ≡ cond b (xor_others (held_word_lem m) k) (held_word_lem m k)
-      pick true e = others_ext (pass_one m cws) (held_word_lem m) k (λ j l ne. sent_word m cws j (others_sound m c k h e j l ne))
+          → cond b (xor_others (pass_one m cws) k) (pass_one m cws k) ≡ cond b (xor_others (held_word m) k) (held_word m k)
+      pick true e = others_ext (pass_one m cws) (held_word m) k (λ j l ne. sent_word m cws j (others_sound m c k h e j l ne))
       pick false e = sent_word m cws k e
   own_word_by_lem (suc (suc n)) c k h = rw (beyond_chips_count m cws) (third_by (count (beyond_at m) 9) k)
 
@@ -154,6 +154,6 @@ module _ (m cws : List ℕ) where
     written_by = joined_ext _ _ 9 written_is
 
     -- the bytes after the visit
-    pub bytes_is : bytes_after_lem e m cws ≡ bytes_for e m
-    unfolding bytes_after_lem bytes_for
+    pub bytes_is : bytes_after e m cws ≡ bytes_for e m
+    unfolding bytes_after bytes_for
     bytes_is = rw (outcome_is, written_by)

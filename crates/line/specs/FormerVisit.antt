@@ -6,7 +6,7 @@ use Rattle.cells.specs.Cells.{chips}
 use Rattle.cells.specs.Chips.{xor_all, mask}
 use Rattle.passes.specs.Passes.{pass_one, is_flagged, is_collision, flagged_chips, pass_three, beyond_chips}
 use Rattle.line.specs.Blame.{Evidence}
-use Rattle.line.specs.Visit.{own_word_by, own_word, own_passes, word_of, if_answered, with_words, bytes_after_lem, report_of}
+use Rattle.line.specs.Visit.{own_word_by, own_word, own_passes, word_of, if_answered, with_words, bytes_after, report_of}
 use Rattle.line.specs.declared.Report.{Report}
 use Rattle.line.specs.declared.Outcome.{Outcome}
 use Rattle.line.specs.declared.Outcome.TheVariants.{Answered, Unlocated, Uncorrectable}
@@ -24,7 +24,7 @@ bytes_with o words m cws = if_answered o (with_words words m cws) m
 pub record AsWith (e : Evidence) (m cws : List ℕ) (o : Outcome) (words : ℕ → ℕ) : Type 0 where
   pub report : report_of e m cws ≡ report_with o m cws
   pub word : (k : ℕ) → k < chips → word_of e m cws k ≡ words k
-  pub bytes : bytes_after_lem e m cws ≡ bytes_with o words m cws
+  pub bytes : bytes_after e m cws ≡ bytes_with o words m cws
 
 -- ---- document 01 with step 5 as it stands there, before Req 02 let chips tell their status
 

@@ -15,7 +15,7 @@ use Rattle.cells.specs.Cells.{chip_at, codeword}
 use Rattle.passes.specs.Passes.{pass_one, is_flagged, is_collision, flagged_chips, xor_others, pass_three, is_flagged_beyond, beyond_chips}
 use Rattle.passes.specs.PassLaws.{others_cancel}
 use Rattle.line.specs.Blame.{Evidence}
-use Rattle.line.specs.Visit.{must_cancel, third_finding, third_word, finding_by, own_word_by, finding_of, own_word, outcome_by, word_by, outcome_of, word_of, if_answered, with_words, written_back, bytes_after_lem, own_passes, row_passes, report_of}
+use Rattle.line.specs.Visit.{must_cancel, third_finding, third_word, finding_by, own_word_by, finding_of, own_word, outcome_by, word_by, outcome_of, word_of, if_answered, with_words, written_back, bytes_after, own_passes, row_passes, report_of}
 use Rattle.line.specs.FormerVisit.{report_with, bytes_with, AsWith, former_outcome_by, former_word_by, former_outcome, former_word, AsBefore, third_before_rows, outcome_before_rows_by, outcome_before_rows, AsBeforeRows, NotDiagnosed}
 use Rattle.line.specs.FindingLaws.{UndecidedCase, undecided_told}
 use Rattle.line.specs.declared.Outcome.{Outcome}
@@ -37,7 +37,7 @@ module _ (e : Evidence) (m cws : List ℕ) where
 
   -- it ends by the same outcome, with words that are those of before
   as_with : (o : Outcome) (words : ℕ → ℕ) → finding_of m cws ≡ Decided o → ((k : ℕ) → k < 9 → own_word m cws k ≡ words k) → AsWith e m cws o words
-  unfolding report_of outcome_of word_of bytes_after_lem written_back with_words report_with bytes_with
+  unfolding report_of outcome_of word_of bytes_after written_back with_words report_with bytes_with
   as_with o words d same =
       let now = decided (finding_of m cws) o d in
       record {

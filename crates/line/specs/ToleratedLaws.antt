@@ -21,11 +21,11 @@ use Rattle.cells.specs.Chips.{xor_all, count}
 use Rattle.cells.specs.ChipLaws.{joined_ext, xor_all_ext, xor_all_xor, xor_all_zero, xor_all_few, count_ext, count_none, count_zero, count_some, count_few, count_found}
 use Rattle.cells.specs.Cells.{cell_at, chip_at, codeword, line_word, stored, line_of}
 use Rattle.cells.specs.CellLaws.{length_codeword, line_stored}
-use Rattle.passes.specs.Passes.{is_flagged, xor_others, chip_status, beyond_chips, is_unsound, held_word_lem, mended_at, beyond_at}
+use Rattle.passes.specs.Passes.{is_flagged, xor_others, chip_status, beyond_chips, is_unsound, held_word, mended_at, beyond_at}
 use Rattle.passes.specs.PassLaws.{flagged_is, others_ext, others_cancel, others_sound, beyond_chips_count}
 use Rattle.line.specs.Blame.{Evidence, is_blamed, blamed_chips}
 use Rattle.line.specs.BlameLaws.{blamed_one}
-use Rattle.line.specs.Visit.{must_cancel, outcome_of, word_of, if_answered, written_back, bytes_after_lem}
+use Rattle.line.specs.Visit.{must_cancel, outcome_of, word_of, if_answered, written_back, bytes_after}
 use Rattle.line.specs.Damage.{damaged, Parity, Tolerated, damaged_patterns, Answerable, few_damaged, all_undone, some_beyond, LeftUndecided}
 use Rattle.line.specs.ClosedFormLaws.{third_finding_with, third_word_with, finding_with, own_word_with, blamed_for, outcome_with, word_with, written_with, finding_for, outcome_for, word_for, bytes_for, blamed_is, blamed_count, outcome_is, word_is, bytes_is}
 use Rattle.line.specs.DamageLaws.{chip_damaged, cell_damaged, line_parity}
@@ -113,7 +113,7 @@ narrow_undone p t j k hj hk wide ne = by (eqb (mended_word (p j)) 0) refl
 pub record Restores (m : List ℕ) (w : ℕ → ℕ) (e : Evidence) (cws : List ℕ) : Type 0 where
   pub answered : outcome_of e m cws ≡ Answered
   pub word : (k : ℕ) → k < 9 → word_of e m cws k ≡ w k
-  pub stored_again : bytes_after_lem e m cws ≡ stored w
+  pub stored_again : bytes_after e m cws ≡ stored w
 
 laid_word : (x : ℕ) → cell x (check_of x) / 256 ≡ x
 laid_word x = cell_word x (check_of x) (check_lt x)
@@ -137,7 +137,7 @@ module _ (m : List ℕ) (w p : ℕ → ℕ) (par : Parity w) (t : Tolerated p)
   sound_zero k h e = eqb-true (p k) 0 (not-false (eqb (p k) 0) (sym (unsound_damaged k h) ∙ e))
 
   -- a chip that holds a codeword holds its word
-  sound_word : (k : ℕ) → k < 9 → is_unsound m k ≡ false → held_word_lem m k ≡ w k
+  sound_word : (k : ℕ) → k < 9 → is_unsound m k ≡ false → held_word m k ≡ w k
   sound_word k h e =
       ap (λ (x : ℕ). x / 256) (at k h ∙ ap (bit_xor (cell (w k) (check_of (w k)))) (sound_zero k h e) ∙ xor_zero_r _) ∙ laid_word (w k)
 
@@ -199,7 +199,7 @@ module _ (m : List ℕ) (w p : ℕ → ℕ) (par : Parity w) (t : Tolerated p)
 
   answered_with : Answerable p → (n : ℕ) → count (is_unsound m) 9 ≡ n → finding_with n m ≡ Decided Answered
   unfolding finding_with must_cancel
-  answered_with a zero c = rw (xor_all_ext (held_word_lem m) w 9 (λ k h. sound_word k h (count_none (is_unsound m) 9 c k h)) ∙ par.sum)
+  answered_with a zero c = rw (xor_all_ext (held_word m) w 9 (λ k h. sound_word k h (count_none (is_unsound m) 9 c k h)) ∙ par.sum)
   answered_with a (suc zero) c = refl
   answered_with a (suc (suc n)) c = third_answered (omega (arith, c, unsound_count)) a (count (beyond_at m) 9) refl
 
@@ -219,8 +219,8 @@ module _ (m : List ℕ) (w p : ℕ → ℕ) (par : Parity w) (t : Tolerated p)
   word_with_lem a zero c k h = sound_word k h (count_none (is_unsound m) 9 c k h)
   word_with_lem a (suc zero) c k h = pick (is_unsound m k) refl
     where
-      pick : (b : Bool) → is_unsound m k ≡ b → cond b (xor_others (held_word_lem m) k) (held_word_lem m k) ≡ w k
-      pick true e = others_ext (held_word_lem m) w k (λ j l ne. sound_word j l (others_sound m c k h e j l ne)) ∙ others_cancel w par.sum k h
+      pick : (b : Bool) → is_unsound m k ≡ b → cond b (xor_others (held_word m) k) (held_word m k) ≡ w k
+      pick true e = others_ext (held_word m) w k (λ j l ne. sound_word j l (others_sound m c k h e j l ne)) ∙ others_cancel w par.sum k h
       pick false e = sound_word k h e
   word_with_lem a (suc (suc n)) c k h = third_word_lem (omega (arith, c, unsound_count)) a (count (beyond_at m) 9) refl k h
 
@@ -334,8 +334,8 @@ module _ (w : ℕ → ℕ) (q : ℕ → List ℕ) (par : Parity w) (nine : (k : 
     visit_refuses = step_refuses (damaged w q) w (λ k. number_of (q k)) par t cells undamaged_chip e cws
 
     -- and its bytes stay
-    pub visit_kept : LeftUndecided (λ k. number_of (q k)) → blamed_chips e (damaged w q) cws ≡ 0 → bytes_after_lem e (damaged w q) cws ≡ damaged w q
-    unfolding bytes_after_lem
+    pub visit_kept : LeftUndecided (λ k. number_of (q k)) → blamed_chips e (damaged w q) cws ≡ 0 → bytes_after e (damaged w q) cws ≡ damaged w q
+    unfolding bytes_after
     visit_kept r z = ap (λ (o : Outcome). if_answered o (written_back e (damaged w q) cws) (damaged w q)) (visit_refuses r z)
 
   module _ (cws : List ℕ) where
@@ -353,7 +353,7 @@ module _ (w : ℕ → ℕ) (q : ℕ → List ℕ) (par : Parity w) (nine : (k : 
 
 -- the 64 bytes that were laid are read from an answered line
 pub line_answered : (d : List ℕ) → length d ≡ 64 → Bytes d → (q : ℕ → List ℕ) → ((k : ℕ) → k < 9 → length (q k) ≡ 9) → ((k : ℕ) → k < 9 → Bytes (q k))
-    → Tolerated (λ k. number_of (q k)) → Answerable (λ k. number_of (q k)) → (e : Evidence) (cws : List ℕ) → line_of (bytes_after_lem e (damaged (line_word d) q) cws) ≡ d
+    → Tolerated (λ k. number_of (q k)) → Answerable (λ k. number_of (q k)) → (e : Evidence) (cws : List ℕ) → line_of (bytes_after e (damaged (line_word d) q) cws) ≡ d
 line_answered d size bytes q nine fits t a e cws =
     ap line_of (visit_answers (line_word d) q (line_parity d size bytes) nine fits t e cws a).stored_again ∙ line_stored d size bytes
 

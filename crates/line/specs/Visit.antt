@@ -111,8 +111,8 @@ unfoldable pub written_back : Evidence → List ℕ → List ℕ → List ℕ
 written_back e m cws = with_words (word_of e m cws) m cws
 
 -- the line's bytes after the visit
-unfoldable pub bytes_after_lem : Evidence → List ℕ → List ℕ → List ℕ
-bytes_after_lem e m cws = if_answered (outcome_of e m cws) (written_back e m cws) m
+unfoldable pub bytes_after : Evidence → List ℕ → List ℕ → List ℕ
+bytes_after e m cws = if_answered (outcome_of e m cws) (written_back e m cws) m
 
 -- what the visit reports: the passes grow by those of the diagnosis, also where it ends in 21
 unfoldable pub report_of : Evidence → List ℕ → List ℕ → Report

@@ -14,9 +14,9 @@ use Rattle.code.specs.XorLaws.{xor_zero_eq}
 use Rattle.cells.specs.Chips.{xor_all, count, mask}
 use Rattle.cells.specs.Cells.{word_at, cell_at}
 use Rattle.words.specs.Bytes.{Bytes}
-use Rattle.cells.specs.CellLaws.{held_word}
+use Rattle.cells.specs.CellLaws.{held_word_lem}
 use Rattle.cells.specs.ChipLaws.{xor_all_ext, xor_all_but, count_ext, mask_ext, count_one}
-use Rattle.passes.specs.Passes.{sends, sent_at, catch_word, pass_one, is_candidate, complement, pass_two, sent_complement, is_flagged, is_collision, flagged_chips, xor_others, pass_three, chip_status, is_flagged_beyond, beyond_chips, is_unsound, held_word_lem, mended_at, beyond_at, holds_catch_word}
+use Rattle.passes.specs.Passes.{sends, sent_at, catch_word, pass_one, is_candidate, complement, pass_two, sent_complement, is_flagged, is_collision, flagged_chips, xor_others, pass_three, chip_status, is_flagged_beyond, beyond_chips, is_unsound, held_word, mended_at, beyond_at, holds_catch_word}
 
 -- ---- what a chip sends
 
@@ -27,7 +27,7 @@ sent_word m cws k h = rw (not-false (is_codeword (cell_at m k)) h)
 
 -- the same, of bytes
 pub sent_held : (m cws : List ℕ) (k : ℕ) → Bytes m → is_unsound m k ≡ false → pass_one m cws k ≡ word_at m k
-sent_held m cws k bytes e = sent_word m cws k e ∙ held_word m k bytes
+sent_held m cws k bytes e = sent_word m cws k e ∙ held_word_lem m k bytes
 
 -- one that holds no codeword sends its catch-word
 pub sent_catch_word : (m cws : List ℕ) (k : ℕ) → is_unsound m k ≡ true → pass_one m cws k ≡ catch_word cws k
@@ -40,7 +40,7 @@ unfolding pass_three sent_at sends
 third_sent m cws k = refl
 
 -- M of a codeword's nine bytes is its word
-pub sound_mended : (m : List ℕ) (k : ℕ) → is_unsound m k ≡ false → mended_at m k ≡ held_word_lem m k
+pub sound_mended : (m : List ℕ) (k : ℕ) → is_unsound m k ≡ false → mended_at m k ≡ held_word m k
 unfolding is_unsound
 sound_mended m k h = mended_word_codeword (cell_at m k) (codeword_syndrome (cell_at m k) (not-false (is_codeword (cell_at m k)) h))
 
@@ -82,17 +82,17 @@ module _ (m cws : List ℕ) where
   -- the flagged chips are those that hold no codeword
   pub flagged_is : (k : ℕ) → is_flagged m cws k ≡ is_unsound m k
   unfolding is_flagged is_candidate sent_complement pass_one pass_two sent_at sends is_unsound
-  flagged_is k = flag_law (held_word_lem m k) (catch_word cws k) (complement cws k) (complement_ne k) (is_codeword (cell_at m k))
+  flagged_is k = flag_law (held_word m k) (catch_word cws k) (complement cws k) (complement_ne k) (is_codeword (cell_at m k))
 
   -- the collisions are those whose codeword's word is their catch-word
   pub collides_is : (k : ℕ) → is_collision m cws k ≡ holds_catch_word m cws k
   unfolding is_collision is_candidate sent_complement pass_one pass_two sent_at sends holds_catch_word
-  collides_is k = collision_law (held_word_lem m k) (catch_word cws k) (complement cws k) (complement_ne k) (is_codeword (cell_at m k))
+  collides_is k = collision_law (held_word m k) (catch_word cws k) (complement cws k) (complement_ne k) (is_codeword (cell_at m k))
 
   -- the candidates are the chips of both kinds
   pub candidate_is : (k : ℕ) → is_candidate m cws k ≡ (is_unsound m k || holds_catch_word m cws k)
   unfolding is_candidate pass_one sent_at sends is_unsound holds_catch_word
-  candidate_is k = candidate_law (held_word_lem m k) (catch_word cws k) (is_codeword (cell_at m k))
+  candidate_is k = candidate_law (held_word m k) (catch_word cws k) (is_codeword (cell_at m k))
 
   -- the flagged chips' mask is that of the chips that hold no codeword
   pub flagged_mask_lem : mask (is_flagged m cws) 9 ≡ mask (is_unsound m) 9

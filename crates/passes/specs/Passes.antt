@@ -74,8 +74,8 @@ beyond_chips m cws = count (is_flagged_beyond m cws) chips
 -- ---- what a chip holds, by the line alone; for laws. Not of document 01
 
 -- chip k's word as it stands
-abbrev pub held_word_lem : List ℕ → ℕ → ℕ
-held_word_lem m k = cell_at m k / 256
+abbrev pub held_word : List ℕ → ℕ → ℕ
+held_word m k = cell_at m k / 256
 
 -- M of chip k's nine bytes
 abbrev pub mended_at : List ℕ → ℕ → ℕ
@@ -87,4 +87,4 @@ beyond_at m k = is_beyond (chip_status m k)
 
 -- chip k holds a codeword whose word is its catch-word
 unfoldable pub holds_catch_word : List ℕ → List ℕ → ℕ → Bool
-holds_catch_word m cws k = is_codeword (cell_at m k) && eqb (held_word_lem m k) (catch_word cws k)
+holds_catch_word m cws k = is_codeword (cell_at m k) && eqb (held_word m k) (catch_word cws k)

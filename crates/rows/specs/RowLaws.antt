@@ -15,7 +15,7 @@ use Rattle.cells.specs.ChipLaws.{bit_lt}
 use Rattle.passes.specs.Passes.{is_candidate, is_flagged, flagged_chips, pass_three, beyond_chips}
 use Rattle.passes.specs.PassLaws.{flagged_is}
 use Rattle.line.specs.Blame.{Evidence}
-use Rattle.line.specs.Visit.{finding_of, own_passes, outcome_by, outcome_of, word_of, bytes_after_lem, row_passes, report_of}
+use Rattle.line.specs.Visit.{finding_of, own_passes, outcome_by, outcome_of, word_of, bytes_after, row_passes, report_of}
 use Rattle.line.specs.CatchWordLaws.{outcome_free, word_free, bytes_free, flagged_free}
 use Rattle.line.specs.FindingLaws.{undecided_made, three_passes, two_beyond_lem}
 use Rattle.line.specs.declared.Outcome.TheVariants.{Uncorrectable}
@@ -86,7 +86,7 @@ module _ (n : ℕ) (m : List ℕ) (l : ℕ) (c d : List ℕ) where
   pub bytes_in_free : bytes_in n m l c ≡ bytes_in n m l d
   unfolding bytes_in
   bytes_in_free =
-      ap (λ (e : Evidence). bytes_after_lem e (line_at m l) c) (evidence_free n m l c d) ∙ bytes_free (evidence_of n m l d) (line_at m l) c d
+      ap (λ (e : Evidence). bytes_after e (line_at m l) c) (evidence_free n m l c d) ∙ bytes_free (evidence_of n m l d) (line_at m l) c d
 
 -- ---- what a visit to line l of a memory m of n lines reports
 

@@ -7,7 +7,7 @@ use Rattle.cells.specs.Chips.{bit}
 use Rattle.passes.specs.Passes.{is_flagged}
 use Rattle.line.specs.declared.Report.{Report}
 use Rattle.line.specs.Blame.{Evidence}
-use Rattle.line.specs.Visit.{word_of, bytes_after_lem, report_of}
+use Rattle.line.specs.Visit.{word_of, bytes_after, report_of}
 use Rattle.memory.specs.Lines.{line_at}
 
 -- a row, document 02's term, is 128 lines from a multiple of 128
@@ -42,4 +42,4 @@ unfoldable pub word_in : ℕ → List ℕ → ℕ → List ℕ → ℕ → ℕ
 word_in n m l cws = word_of (evidence_of n m l cws) (line_at m l) cws
 
 unfoldable pub bytes_in : ℕ → List ℕ → ℕ → List ℕ → List ℕ
-bytes_in n m l cws = bytes_after_lem (evidence_of n m l cws) (line_at m l) cws
+bytes_in n m l cws = bytes_after (evidence_of n m l cws) (line_at m l) cws

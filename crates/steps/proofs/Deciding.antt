@@ -13,7 +13,7 @@ use Rattle.cells.proofs.Loops.{member_is}
 use Rattle.passes.specs.Passes.{is_candidate, is_flagged, flagged_chips, pass_three}
 use Rattle.line.specs.Blame.{Evidence}
 use Rattle.line.specs.Found.{may_answer, ChecksAt, ChecksIfAnswered, ChecksUnlessRefused}
-use Rattle.line.specs.Visit.{finding_of, own_word, own_passes, outcome_by, word_by, row_passes, outcome_of, word_of, if_answered, with_words, written_back, bytes_after_lem, examined_of, report_of}
+use Rattle.line.specs.Visit.{finding_of, own_word, own_passes, outcome_by, word_by, row_passes, outcome_of, word_of, if_answered, with_words, written_back, bytes_after, examined_of, report_of}
 use Rattle.line.specs.FindingLaws.{undecided_told}
 use Rattle.line.specs.declared.Examined.{Examined}
 use Rattle.line.specs.declared.Report.{Report}
@@ -94,8 +94,8 @@ module _ (e : Evidence) (m cws : List ℕ) {x : Examined} (ex : x ≡ examined_o
   report_is eo ep = λ i. record { outcome = eo i; passes = (ex i).passes + ep i; flagged = (ex i).flagged; collisions = (ex i).collisions }
 
   pub bytes_are : {o : Outcome} (ws : List ℕ) → o ≡ outcome_of e m cws → AtPlaces (is_flagged m cws) (word_of e m cws) ws 9
-      → if_answered o (joined (λ k. cond (in_mask x.flagged k) (codeword (get_or ws k 0)) (chip_at m k)) 9) m ≡ bytes_after_lem e m cws
-  unfolding bytes_after_lem written_back with_words
+      → if_answered o (joined (λ k. cond (in_mask x.flagged k) (codeword (get_or ws k 0)) (chip_at m k)) 9) m ≡ bytes_after e m cws
+  unfolding bytes_after written_back with_words
   bytes_are ws eo ew =
       ap₂ (λ (u : Outcome) (bs : List ℕ). if_answered u bs m) eo
       (joined_ext _ _ 9

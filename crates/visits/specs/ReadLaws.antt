@@ -42,10 +42,10 @@ module _ (n : ℕ) (m cws : List ℕ) (l : ℕ) (fits : 81 * l + 81 ≤ length m
   length_in = length_after (evidence_of n m l cws) (line_at m l) cws long
 
   -- the line that an answered visit found stands in the memory s after it
-  pub found_after : (s : List ℕ) → s ≡ with_line m l (bytes_in n m l cws) → Bytes s → (report_in n m l cws).outcome ≡ Answered
+  pub found_after_lem : (s : List ℕ) → s ≡ with_line m l (bytes_in n m l cws) → Bytes s → (report_in n m l cws).outcome ≡ Answered
       → line_of (line_at s l) ≡ found_line n m l cws
   unfolding report_in report_of word_in bytes_in
-  found_after s e after answered =
+  found_after_lem s e after answered =
       let laid : line_at s l ≡ bytes_in n m l cws = ap (λ (y : List ℕ). line_at y l) e ∙ line_laid m l fits (bytes_in n m l cws) length_in in
       line_found n m l cws (line_at s l) (ap length laid ∙ length_in) (bytes_line s l after)
       (λ k h.
@@ -59,7 +59,7 @@ module _ (n : ℕ) (m cws : List ℕ) (l : ℕ) (fits : 81 * l + 81 ≤ length m
       ap (λ (w : Report). if_answered w.outcome (line_of (line_at s l)) b) e ∙ by (report_in n m l cws).outcome refl
     where
       by : (o : Outcome) → (report_in n m l cws).outcome ≡ o → if_answered o (line_of (line_at s l)) b ≡ if_answered o (found_line n m l cws) b
-      by Answered answered = found_after s memory after answered
+      by Answered answered = found_after_lem s memory after answered
       by Unlocated refused = refl
       by Uncorrectable refused = refl
 
