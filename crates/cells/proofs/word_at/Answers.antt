@@ -1,0 +1,8 @@
+-- `cells::word_at` meets its contract. Assumes nothing.
+use Rattle.cells.specs.Cells.{word_at}
+use borrow.Author.Rules.{rules}
+use Rattle.cells.proofs.word_at.Goals as goal
+
+pub returns : goal.returns
+unfolding word_at
+returns c = c.load_word.ensures

@@ -1,0 +1,41 @@
+-- `cells::xor_into` meets its contract. Assumes nothing.
+use mathlib.Core.Path.{◌≡◌, refl, ap, ◌∙◌}
+use mathlib.Core.List.{List}
+use Prim.Native.Nat.{ℕ, ◌+◌, ◌*◌, ◌-◌, ◌≤◌, zero-le}
+use native.Mathlib.Omega.{arith}
+use lib.Bits.{bit_xor}
+use lib.ListN.{length, get_or, set, length-set}
+use lib.Seq.{sets, take_all}
+use Rattle.cells.specs.Cells.{chip_at, with_chip}
+use Rattle.words.specs.Bytes.{xor_bytes, bytes_from}
+use Rattle.cells.proofs.Loops.{xored, xored_more}
+use borrow.Author.Rules.{rules}
+use Rattle.cells.proofs.xor_into.Goals as goal
+
+pub loop-i-init : goal.loop-i-init
+unfolding bytes_from
+loop-i-init c = (zero-le, refl, refl)
+
+pub loop-i-preserved : goal.loop-i-preserved
+loop-i-preserved c =
+    let x = c.args in
+    let l = c.loop-i in
+    let at : ℕ = 9 * x.k in (
+      omega arith,
+      simp length-set l.invariant.1,
+      ap (λ (r : List ℕ). set r (at + l.i) (bit_xor (get_or r (at + l.i) 0) (get_or x.pattern.now l.i 0))) l.invariant.2
+          ∙ xored_more x.line.now x.pattern.now at l.i (omega arith) (omega arith),
+    )
+
+pub returns : goal.returns
+unfolding with_chip chip_at
+returns c =
+    let x = c.args in
+    let l = c.loop-i in
+    let e : l.i ≡ 9 = omega arith in
+    l.invariant.2
+    ∙ ap (xored x.line.now (9 * x.k) x.pattern.now) e
+    ∙ ap (λ (q : List ℕ). sets x.line.now (9 * x.k) (xor_bytes (bytes_from 9 (9 * x.k) x.line.now) q)) (take_all 9 x.pattern.now (omega arith))
+
+pub shape_of-line : goal.shape_of-line
+shape_of-line c = c.loop-i.invariant.1

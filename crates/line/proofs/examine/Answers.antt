@@ -1,0 +1,40 @@
+-- `line::examine` meets its contract. Assumes nothing.
+use mathlib.Core.Path.{◌≡◌, refl, ap, ◌∙◌}
+use mathlib.Core.Bool.{not}
+use mathlib.Core.List.{List}
+use Prim.Native.Nat.{ℕ}
+use lib.Dec.{eqb}
+use Rattle.cells.specs.Chips.{mask}
+use Rattle.passes.specs.Passes.{is_unsound}
+use Rattle.passes.specs.declared.syndromes.Syndromes.{Syndromes}
+use Rattle.passes.specs.Syndromes.{syndromes_of, syndrome_in}
+use Rattle.passes.specs.SyndromeLaws.{unsound_mask}
+use Rattle.line.proofs.Steps.{passes_made, examined_is}
+use borrow.Author.Rules.{rules}
+use Rattle.line.proofs.examine.Goals as goal
+
+-- the chips that hold no codeword, out of the syndromes
+unsound_is : (m : List ℕ) {s : Syndromes} {n : ℕ} → s ≡ syndromes_of m → n ≡ mask (λ k. not (eqb (syndrome_in s k) 0)) 9 → n ≡ mask (is_unsound m) 9
+unsound_is m e q = q ∙ ap (λ s. mask (λ k. not (eqb (syndrome_in s k) 0)) 9) e ∙ unsound_mask m
+
+pub pass-pass_one-requires : goal.pass-pass_one-requires
+pass-pass_one-requires c =
+    record { sizes = (c.requires.0, c.requires.1); unsound = unsound_is c.args.line.now c.of_line-syndromes.ensures c.unsound_chips-unsound.ensures }
+
+pub pass-flagged-requires : goal.pass-flagged-requires
+pass-flagged-requires c =
+    record { sizes = (pass-pass_one-requires c κs).0; unsound = (pass-pass_one-requires c κs).1; candidates = c.pass-pass_one.ensures.candidates }
+
+pub resolve-finding-requires : goal.resolve-finding-requires
+resolve-finding-requires c =
+    record { sizes = (c.requires.0, c.requires.1, refl, refl); syndromes = c.of_line-syndromes.ensures; parity = c.pass-pass_one.ensures.parity; flagged = c.pass-flagged.ensures }
+
+pub returns : goal.returns
+returns c =
+    let all = (let x = c.args in
+    let m = x.line.now in
+    let cws = x.catch_words.now in
+    let flagged = c.pass-flagged.ensures in
+    let candidates = c.pass-pass_one.ensures.candidates in
+    let found = c.resolve-finding.ensures in
+    (examined_is m cws found.0 candidates flagged (passes_made m cws candidates flagged c.passes_made-passes.ensures), found.1)) in record { examined = all.0; words = all.1.0; checks = all.1.1.0; sizes = all.1.1.1 }

@@ -1,0 +1,16 @@
+-- `line::refusal` meets its contract. Assumes nothing.
+use Rattle.line.specs.Visit.{refusal_of}
+use borrow.Author.Rules.{rules}
+use Rattle.line.proofs.refusal.Goals as goal
+
+pub returns-in-Answered : goal.returns-in-Answered
+unfolding refusal_of
+returns-in-Answered c = rw c.enum_told-1.given.1
+
+pub returns-in-Unlocated : goal.returns-in-Unlocated
+unfolding refusal_of
+returns-in-Unlocated c = rw c.enum_told-in-Unlocated-1.given.1
+
+pub returns-in-Uncorrectable : goal.returns-in-Uncorrectable
+unfolding refusal_of
+returns-in-Uncorrectable c = rw c.enum_told-in-Uncorrectable-1.given.1

@@ -1,0 +1,107 @@
+-- `line::write_back` meets its contract. Assumes nothing.
+use mathlib.Core.Path.{◌≡◌, refl, sym, ap, ap₂, ◌∙◌}
+use mathlib.Core.Bool.{Bool, true, false, cond}
+use mathlib.Core.List.{List}
+use Prim.Native.Nat.{ℕ, ◌<◌}
+use native.Mathlib.Omega.{arith}
+use lib.Dec.{eqb}
+use lib.ListN.{length, get_or}
+use borrow.Author.Tests.{eqb-true, eqb-false}
+use Rattle.cells.specs.Chips.{joined, in_mask}
+use Rattle.cells.specs.Cells.{chip_at, codeword, with_chip}
+use Rattle.cells.specs.CellLaws.{length_chip, length_codeword, length_joined, length_with_chip, chip_laid, chip_other, chip_joined, same_chips}
+use Rattle.cells.specs.MaskLaws.{TakenOff, no_member}
+use Rattle.cells.proofs.Loops.{Pending, pending_lowest, pending_below, pending_next, rest_own, rest_other}
+use borrow.Author.Rules.{rules}
+use Rattle.line.proofs.write_back.Goals as goal
+
+-- chip k's nine bytes afterwards
+abbrev chip : List ℕ → ℕ → List ℕ → ℕ → List ℕ
+chip line flagged words k = cond (in_mask flagged k) (codeword (get_or words k 0)) (chip_at line k)
+
+nine : (b : Bool) (w : ℕ) (bs : List ℕ) → length bs ≡ 9 → length (cond b (codeword w) bs) ≡ 9
+nine true w bs e = length_codeword w
+nine false w bs e = e
+
+-- the chips of `rest` are as they were, the others as they will be
+record Laid (line words : List ℕ) (flagged rest : ℕ) (s : List ℕ) : Type 0 where
+  pending : Pending (in_mask flagged) rest
+  size : length s ≡ 81
+  done : (k : ℕ) → k < 9 → chip_at s k ≡ cond (in_mask rest k) (chip_at line k) (chip line flagged words k)
+
+module _ (line words : List ℕ) (flagged : ℕ) (e : length line ≡ 81) where
+  laid_none : flagged < 512 → Laid line words flagged flagged line
+  laid_none f =
+      record { pending = record { fits = f; chips = λ k l t. t }; size = e; done = λ k l. pick (in_mask flagged k) (chip_at line k) _ }
+    where
+      pick : (b : Bool) (x y : List ℕ) → x ≡ cond b x (cond b y x)
+      pick true x y = refl
+      pick false x y = refl
+
+  laid_more : {rest k t : ℕ} {s u : List ℕ} → Laid line words flagged rest s → TakenOff rest k t → u ≡ with_chip s k (codeword (get_or words k 0))
+      → Laid line words flagged t u
+  laid_more {rest} {k} {t} {s} {u} h l q =
+      record {
+        pending = pending_next h.pending l;
+        size = ap length q ∙ length_with_chip s _ k ∙ h.size;
+        done = λ j b. ap (λ (x : List ℕ). chip_at x j) q ∙ pick j b (eqb j k) refl;
+      }
+    where
+      bs : List ℕ
+      bs = codeword (get_or words k 0)
+
+      pick : (j : ℕ) → j < 9 → (b : Bool) → eqb j k ≡ b → chip_at (with_chip s k bs) j ≡ cond (in_mask t j) (chip_at line j) (chip line flagged words j)
+      pick j b true i =
+          let own : j ≡ k = eqb-true j k i in
+          let flag : in_mask flagged j ≡ true = ap (in_mask flagged) own ∙ h.pending.chips k l.below l.member in
+          ap (chip_at (with_chip s k bs)) own ∙ chip_laid s bs k h.size (length_codeword _) l.below ∙ ap (λ (x : ℕ). codeword (get_or words x 0)) (sym own)
+          ∙ sym (ap₂ (λ (c d : Bool). cond c (chip_at line j) (cond d (codeword (get_or words j 0)) (chip_at line j))) (ap (in_mask t) own ∙ rest_own l) flag)
+      pick j b false i =
+          chip_other s bs k h.size (length_codeword _) l.below j b (eqb-false j k i) ∙ h.done j b
+          ∙ ap (λ (c : Bool). cond c (chip_at line j) (chip line flagged words j)) (sym (rest_other l j b (eqb-false j k i)))
+
+  laid_all : {rest : ℕ} {s : List ℕ} → Laid line words flagged rest s → rest ≡ 0 → s ≡ joined (chip line flagged words) 9
+  laid_all {rest} {s} h z =
+      let long : (k : ℕ) → k < 9 → length (chip line flagged words k) ≡ 9 = λ k l. nine (in_mask flagged k) (get_or words k 0) (chip_at line k) (length_chip line k e l) in
+      same_chips s (joined (chip line flagged words) 9) h.size (length_joined (chip line flagged words) 9 9 long)
+      (λ k l.
+      h.done k l ∙ ap (λ (c : Bool). cond c (chip_at line k) (chip line flagged words k)) (ap (λ (x : ℕ). in_mask x k) z ∙ no_member k l)
+      ∙ sym (chip_joined (chip line flagged words) long k l))
+
+pub loop-rest-init : goal.loop-rest-init
+loop-rest-init c = laid_none c.args.line-1.now c.args.words.now c.args.flagged c.requires.sizes.0 c.requires.flagged
+
+pub bounds-words-k : goal.bounds-words-k
+bounds-words-k c = pending_below c.loop-rest.invariant.pending c.loop-rest-test.true c.lowest-k.ensures
+
+pub lay_checked-requires : goal.lay_checked-requires
+lay_checked-requires c =
+    let l = c.loop-rest in
+    let turn = pending_lowest l.invariant.pending c.loop-rest-test.true c.lowest-k.ensures refl in
+    record { sizes = (l.invariant.size, turn.below); check = c.requires.checks.at _ turn.below (l.invariant.pending.chips _ turn.below turn.member) }
+
+pub loop-rest-preserved : goal.loop-rest-preserved
+loop-rest-preserved c =
+    let l = c.loop-rest in
+    laid_more c.args.line-1.now c.args.words.now c.args.flagged c.requires.sizes.0 l.invariant
+    (pending_lowest l.invariant.pending c.loop-rest-test.true c.lowest-k.ensures c.without_lowest-rest.ensures) c.lay_checked.ensures
+
+pub returns : goal.returns
+returns c =
+    laid_all c.args.line-1.now c.args.words.now c.args.flagged c.requires.sizes.0 c.loop-rest.invariant c.loop-rest-test.false
+
+pub offset_bounds-words-k : goal.offset_bounds-words-k
+offset_bounds-words-k c = record { fits = omega (arith, bounds-words-k c) }
+
+pub bounds-checks-k : goal.bounds-checks-k
+bounds-checks-k c = bounds-words-k c
+
+pub without_lowest-rest-requires : goal.without_lowest-rest-requires
+without_lowest-rest-requires c = let some = c.loop-rest-test.true in (omega arith, c.loop-rest.invariant.pending.fits)
+
+pub loop-rest-smaller : goal.loop-rest-smaller
+loop-rest-smaller c =
+    (pending_lowest c.loop-rest.invariant.pending c.loop-rest-test.true c.lowest-k.ensures c.without_lowest-rest.ensures).less
+
+pub shape_of-line : goal.shape_of-line
+shape_of-line c = c.loop-rest.invariant.size ∙ sym c.requires.sizes.0

@@ -1,0 +1,29 @@
+-- `memory::examine` meets its contract. Assumes nothing.
+use Prim.Native.Nat.{ℕ, ◌*◌}
+use native.Mathlib.Nat.{add-sub_cancel_left}
+use native.Mathlib.Omega.{arith}
+use mathlib.Core.Path.{◌≡◌, subst}
+use mathlib.Core.List.{List}
+use lib.ListN.{length}
+use Rattle.cells.specs.Chips.{AtPlaces}
+use Rattle.passes.specs.Passes.{is_flagged}
+use Rattle.line.specs.declared.Examined.{Examined}
+use Rattle.line.specs.Visit.{own_word, examined_of}
+use Rattle.line.specs.Found.{ChecksUnlessRefused}
+use Rattle.memory.proofs.Parts.{lent}
+use borrow.Author.Rules.{rules}
+use Rattle.memory.proofs.examine.Goals as goal
+
+-- what the line's bytes x give
+abbrev Gives : List ℕ → List ℕ → Examined → List ℕ → List ℕ → Type 0
+Gives x cws r words checks =
+    (r ≡ examined_of x cws)
+    × (AtPlaces (is_flagged x cws) (own_word x cws) words 9
+    × (ChecksUnlessRefused r.finding (is_flagged x cws) words checks × ((length words ≡ 9) × (length checks ≡ 9))))
+
+pub returns : goal.returns
+returns c =
+    let all = (let a = c.args in
+    subst (λ (x : List ℕ). Gives x a.catch_words.now c.examine.result c.examine.new.1.1.0 c.examine.new.1.1.1.0)
+    (lent a.memory.now a.line _ (add-sub_cancel_left (81 * a.line) 81) (omega (arith, c.requires.0)))
+    c.examine.ensures) in record { examined = all.0; words = all.1.0; checks = all.1.1.0; sizes = all.1.1.1 }

@@ -1,0 +1,15 @@
+use mathlib.Core.Path.{refl, ap, ◌∙◌}
+use Prim.Native.Nat.{ℕ, ◌*◌, ◌-◌, ◌^◌}
+use lib.Dec.{eqb}
+use Rattle.cells.specs.Chips.{bit, mask}
+use Rattle.passes.specs.Passes.{catch_word}
+use Rattle.passes.specs.Scan.{equals_catch_word}
+use Rattle.cells.proofs.Loops.{Upto, none_yet, mask_more, upto_all}
+use borrow.Author.Rules.{rules}
+use Rattle.passes.proofs.equal.by_chip.Given as goal
+
+abbrev pub invariant-loop-k : goal.invariant-loop-k
+invariant-loop-k l = Upto (mask (equals_catch_word l.line l.catch_words)) 9 l.equal l.k
+
+abbrev pub decreases-loop-k : goal.decreases-loop-k
+decreases-loop-k l = 9 - l.k

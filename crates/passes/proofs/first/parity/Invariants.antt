@@ -1,0 +1,15 @@
+use mathlib.Core.Path.{sym}
+use native.Mathlib.Omega.{arith}
+use Rattle.cells.specs.Cells.{word_at}
+use Rattle.cells.proofs.Loops.{pending_lowest, pending_below}
+use Rattle.passes.specs.Passes.{catch_word, pass_one, is_unsound}
+use Rattle.passes.specs.PassLaws.{sent_held, sent_catch_word}
+use Rattle.passes.proofs.Turns.{Exchanged, exchanged_none, exchanged_more, exchanged_all}
+use borrow.Author.Rules.{rules}
+use Rattle.passes.proofs.first.parity.Given as goal
+
+abbrev pub invariant-loop-rest : goal.invariant-loop-rest
+invariant-loop-rest l = Exchanged (is_unsound l.line) (word_at l.line) (pass_one l.line l.catch_words) l.rest l.parity
+
+abbrev pub decreases-loop-rest : goal.decreases-loop-rest
+decreases-loop-rest l = l.rest

@@ -1,0 +1,18 @@
+-- `passes::held_words::parity` meets its contract. Assumes nothing.
+use mathlib.Core.Path.{refl}
+use Prim.Native.Nat.{◌-◌}
+use Rattle.cells.specs.Chips.{xor_all}
+use Rattle.cells.specs.Cells.{word_at}
+use Rattle.cells.proofs.Loops.{Upto, none_yet, xor_more, upto_all}
+use borrow.Author.Rules.{rules}
+use Rattle.passes.proofs.held_words.parity.Goals as goal
+
+pub loop-k-init : goal.loop-k-init
+unfolding xor_all
+loop-k-init c = none_yet _ 9 refl
+
+pub loop-k-preserved : goal.loop-k-preserved
+loop-k-preserved c = xor_more _ c.loop-k.invariant (search rules) c.word_at-parity.ensures
+
+pub returns : goal.returns
+returns c = upto_all c.loop-k.invariant c.loop-k-test.false

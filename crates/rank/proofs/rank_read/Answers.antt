@@ -1,0 +1,60 @@
+-- `rank::rank_read` meets its contract. Assumes nothing.
+use mathlib.Core.Path.{◌≡◌, sym, ap, ◌∙◌}
+use Prim.Native.Nat.{ℕ, ◌≤◌}
+use native.Mathlib.Omega.{arith}
+use lib.ListN.{length, get_or}
+use mir.Syntax.{w32}
+use mir.Val.{Fits}
+use Rattle.record.specs.Record.{total_limit}
+use Rattle.visits.specs.Visits.{LeavesRead, visit_of, read_by}
+use Rattle.visits.specs.VisitLaws.{result_made}
+use Rattle.refusals.specs.Refusals.{read_tests}
+use Rattle.refusals.specs.RefusalLaws.{read_passed}
+use Rattle.rank.specs.CallLaws.{read_refused, read_accepted}
+use borrow.Author.Rules.{rules}
+use Rattle.rank.proofs.rank_read.Goals as goal
+
+-- what the record's type says of it
+words : (x : tie.Start) → length x.args.rank.catch_words ≡ 9
+words x = search rules
+
+registers : (x : tie.Start) → length x.args.rank.registers ≡ 9
+registers x = search rules
+
+total : (x : tie.Start) (i : ℕ) → get_or x.args.rank.repairs i 0 ≤ total_limit
+total x i =
+    let fits : Fits w32 (get_or x.args.rank.repairs i 0) = search rules in
+    omega (arith, fits.fits)
+
+pub visit_into-visited-requires : goal.visit_into-visited-requires
+visit_into-visited-requires c =
+    let p = read_passed _ _ _ _ _ (sym c.of_read-refusal.ensures ∙ c.if-refusal-eq0.true) in
+    (words c, omega (arith, p.0.size), p.2, p.3)
+
+pub count-requires : goal.count-requires
+count-requires c =
+    let p = read_passed _ _ _ _ _ (sym c.of_read-refusal.ensures ∙ c.if-refusal-eq0.true) in
+    (omega (arith, p.1), total c _)
+
+pub returns-then-refusal-eq0 : goal.returns-then-refusal-eq0
+unfolding read_by visit_of
+returns-then-refusal-eq0 c =
+    let a = c.args in
+    let of_read = c.of_read-refusal in
+    let zero = c.if-refusal-eq0.true in
+    let refusal_is : of_read.result ≡ read_tests a.rank a.memory-1.now a.task a.line a.buffer-1.now = of_read.ensures in
+    let p = read_passed a.rank a.memory-1.now a.task a.line a.buffer-1.now (sym refusal_is ∙ zero) in
+    let e = read_accepted a.rank a.memory-1.now a.task a.line a.buffer-1.now _ refusal_is zero in
+    let v = c.visit_into-visited in record {
+      result = result_made a.task a.rank a.memory-1.now a.line v.result _ _ _ v.ensures.0
+          (p.0.equal (registers c) (words c)) (registers c) v.ensures.1.0 c.set_registers.ensures c.count.ensures
+          ∙ sym (ap (λ (x : LeavesRead). x.result) e);
+      memory = v.ensures.1.1.0 ∙ sym (ap (λ (x : LeavesRead). x.memory-1) e);
+      buffer = v.ensures.1.1.1 ∙ sym (ap (λ (x : LeavesRead). x.buffer-1) e);
+    }
+
+pub returns-else-refusal-eq0 : goal.returns-else-refusal-eq0
+returns-else-refusal-eq0 c =
+    let a = c.args in
+    let e = read_refused a.rank a.memory-1.now a.task a.line a.buffer-1.now _ c.of_read-refusal.ensures c.if-refusal-eq0.false in
+    record { result = sym (ap (λ (x : LeavesRead). x.result) e); memory = sym (ap (λ (x : LeavesRead). x.memory-1) e); buffer = sym (ap (λ (x : LeavesRead). x.buffer-1) e) }

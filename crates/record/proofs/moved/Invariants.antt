@@ -1,0 +1,11 @@
+use Rattle.std.proofs.Common.{ℕ, ◌-◌, Bool, cond, get_or, refl, ap, ◌∙◌, rules}
+use Rattle.cells.specs.Chips.{in_mask}
+use Rattle.cells.specs.ArrayLaws.{Filled, filled_none, filled_more, filled_all}
+use Rattle.record.specs.Record.{grown, moved}
+use Rattle.record.proofs.moved.Given as goal
+
+abbrev pub invariant-loop-k : goal.invariant-loop-k
+invariant-loop-k l = Filled (λ (j : ℕ). cond (in_mask l.collisions j) (grown (get_or l.words j 0)) (get_or l.words j 0)) l.out l.k
+
+abbrev pub decreases-loop-k : goal.decreases-loop-k
+decreases-loop-k l = 9 - l.k

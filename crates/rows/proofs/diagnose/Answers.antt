@@ -1,0 +1,50 @@
+-- `rows::diagnose` meets its contract. Assumes nothing.
+use mathlib.Core.Path.{◌≡◌, ap, subst⁻¹}
+use Prim.Native.Nat.{ℕ, ◌*◌, ◌^◌, ◌<◌}
+use native.Mathlib.Omega.{arith}
+use Rattle.cells.specs.Chips.{mask}
+use Rattle.cells.specs.ChipLaws.{mask_lt}
+use Rattle.line.specs.Blame.{is_blamed}
+use Rattle.memory.specs.Lines.{line_at}
+use Rattle.rows.specs.Rows.{evidence_of}
+use Rattle.rows.specs.RowLaws.{first_le}
+use Rattle.rows.proofs.Diagnosed.{others_are, blamed_made, rebuilt_as}
+use borrow.Author.Rules.{rules}
+use Rattle.rows.proofs.diagnose.Goals as goal
+
+-- the mask of the blamed chip
+blamed_is : (c : tie.After-blamed-chips) → c.blamed-chips.result
+    ≡ mask (is_blamed (evidence_of c.before.before.before.before.before.before.args.lines c.before.before.before.before.before.before.args.memory.now c.before.before.before.before.before.before.args.line c.before.before.before.before.before.before.args.catch-words.now) (line_at c.before.before.before.before.before.before.args.memory.now c.before.before.before.before.before.before.args.line) c.before.before.before.before.before.before.args.catch-words.now) 9
+blamed_is c =
+    let s = c.before.before.before.before.before.before in
+    blamed_made s.args.lines s.args.line s.args.memory.now s.args.catch-words.now s.requires.0.1 c.before.before.before.before.first_of.ensures c.before.before.before.end_of_lem.ensures c.before.before.flagged-words.ensures.0
+    s.requires.1.0 c.before.reaching.ensures c.blamed-chips.ensures
+
+pub end_of-end-requires : goal.end_of-end-requires
+end_of-end-requires c = omega (arith, c.first_of-first.ensures, first_le c.args.line, c.requires.sizes.1)
+
+pub overflow_sub-others-2 : goal.overflow_sub-others-2
+overflow_sub-others-2 c = omega (arith, c.end_of-end.ensures, c.first_of-first.ensures, first_le c.args.line, c.requires.sizes.1)
+
+pub flagged_words-counts-requires : goal.flagged_words-counts-requires
+flagged_words-counts-requires c =
+    let first = c.first_of-first.ensures in
+    let end = c.end_of-end.ensures in (
+      omega (arith, end, first, first_le c.args.line, c.requires.sizes.0, c.requires.sizes.1),
+      omega (arith, end),
+      omega (arith, end),
+      c.requires.sizes.2,
+    )
+
+pub rebuild-outcome-requires : goal.rebuild-outcome-requires
+rebuild-outcome-requires c = (subst⁻¹ (λ (n : ℕ). n < 2 ^ 9) (blamed_is c) (mask_lt _ 9), c.requires.sizes.3, c.requires.sizes.4)
+
+pub returns : goal.returns
+returns c =
+    let a = c.args in
+    let m = a.memory.now in
+    let cws = a.catch_words.now in
+    let again = c.rebuild-outcome.ensures in
+    let made =
+    rebuilt_as (evidence_of a.lines m a.line cws) (line_at m a.line) cws a.xor a.words.now a.checks.now c.requires.xor c.requires.words c.requires.checks c.requires.sizes.3
+    c.requires.sizes.4 (blamed_is c) again.0 again.1.0 again.1.1 in record { outcome = made.0; passes = ap (λ (n : ℕ). 2 * n) (others_are a.lines a.line m cws c.requires.sizes.1 c.first_of-first.ensures c.end_of-end.ensures); words = made.1.words; checks = made.1.checks; sizes = made.1.sizes }

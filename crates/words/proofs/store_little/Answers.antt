@@ -1,0 +1,45 @@
+-- `words::store_little` meets its contract. Assumes nothing.
+use native.Mathlib.Omega.{arith}
+use lib.ListN.{length-set}
+use Rattle.words.proofs.Words.{stored_low_first}
+use borrow.Author.Rules.{rules}
+use Rattle.words.proofs.store_little.Goals as goal
+
+pub returns : goal.returns
+returns c =
+    let x = c.args in
+    stored_low_first x.word
+    c.low.ensures
+    c.low-2.ensures
+    c.low-3.ensures
+    c.low-4.ensures
+    c.low-5.ensures
+    c.low-6.ensures
+    c.low-7.ensures
+    c.low-8.ensures
+    x.bytes.now
+    x.at
+
+pub bounds-bytes-at-2 : goal.bounds-bytes-at-2
+bounds-bytes-at-2 c = simp length-set (omega arith)
+
+pub bounds-bytes-at-3 : goal.bounds-bytes-at-3
+bounds-bytes-at-3 c = simp length-set (omega arith)
+
+pub bounds-bytes-at-4 : goal.bounds-bytes-at-4
+bounds-bytes-at-4 c = simp length-set (omega arith)
+
+pub bounds-bytes-at-5 : goal.bounds-bytes-at-5
+bounds-bytes-at-5 c = simp length-set (omega arith)
+
+pub bounds-bytes-at-6 : goal.bounds-bytes-at-6
+bounds-bytes-at-6 c = simp length-set (omega arith)
+
+pub bounds-bytes-at-7 : goal.bounds-bytes-at-7
+bounds-bytes-at-7 c = simp length-set (omega arith)
+
+pub bounds-bytes-at-8 : goal.bounds-bytes-at-8
+bounds-bytes-at-8 c = simp length-set (omega arith)
+
+pub shape_of-bytes : goal.shape_of-bytes
+shape_of-bytes c = simp length-set
