@@ -11,7 +11,7 @@ use Rattle.std.proofs.lemmas.Nat.{xor_comm}
 use Rattle.std.proofs.Math.Dec.{lit<}
 use Rattle.std.proofs.Math.ListN.{replicate, length-append}
 use Rattle.code.specs.Code.{check_of, stored_check, without_added}
-use Rattle.code.specs.StoredLaws.{stored_lt}
+use Rattle.code.proofs.StoredLaws.{stored_lt}
 use Rattle.code.specs.TestLaws.{each, each_equal}
 use Rattle.words.specs.Bytes.{number_of, bytes_of, bytes_from, xor_bytes, Bytes}
 use Rattle.words.specs.ByteLaws.{bytes_append, bytes_cons, bytes_zeros, bytes_bytes_of, bytes_bytes_from, length_bytes_of, length_bytes_from, length_xor, bytes_xor, number_xor, number_snoc, number_zeros, xor_snoc, xor_zeros, xor_bytes_assoc, xor_bytes_comm}

@@ -11,8 +11,8 @@ use lib.Count.{ones}
 use lib.Dec.{eqb, ltb}
 use borrow.Author.Tests.{eq-eqb, ne_eqb, le-leb, lt-leb, lt-ltb, le-ltb, ltb-false}
 use Rattle.code.specs.Code.{mended_word, status_of, is_beyond}
-use Rattle.code.specs.MendLaws.{mended_word_narrow}
-use Rattle.code.specs.StatusLaws.{beyond_wide}
+use Rattle.code.proofs.MendLaws.{mended_word_narrow}
+use Rattle.code.proofs.StatusLaws.{beyond_wide}
 use Rattle.code.specs.TestLaws.{and_first}
 use Rattle.words.specs.ByteLaws.{number_lt}
 use Rattle.cells.specs.Chips.{count}

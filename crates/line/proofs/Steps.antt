@@ -12,7 +12,7 @@ use lib.ListN.{length, get_or, set, length-set}
 use borrow.Author.Tests.{eqb-true, eqb-false, lt-ltb}
 use Rattle.code.specs.Code.{check_of, mended, mended_word}
 use Rattle.code.specs.XorLaws.{xor_cancel_r}
-use Rattle.code.specs.StatusLaws.{mended_check}
+use Rattle.code.proofs.StatusLaws.{mended_check}
 use Rattle.code.specs.TestLaws.{and_first}
 use Rattle.cells.specs.Chips.{xor_all, bit, count, mask, AtPlaces}
 use Rattle.cells.specs.ChipLaws.{xor_all_but, count_none, count_one, count_le, ones_mask, mask_count, count_mask}

@@ -7,7 +7,7 @@ use Rattle.std.proofs.Math.Bool.{true, false, cond}
 use mathlib.Core.List.{List}
 use Prim.Native.Nat.{ℕ, zero, suc, ◌^◌, ◌<◌}
 use Rattle.std.proofs.Math.Dec.{lit<}
-use Rattle.code.specs.MendLaws.{mended_word_lt}
+use Rattle.code.proofs.MendLaws.{mended_word_lt}
 use Rattle.cells.specs.Chips.{count}
 use Rattle.words.specs.Bytes.{number_of, Bytes}
 use Rattle.cells.specs.Cells.{word_at, cell_at, chip_at, codeword}

@@ -12,9 +12,9 @@ use Rattle.std.specs.Int.Count.{ones}
 use Rattle.std.proofs.Math.Dec.{eqb}
 use borrow.Author.Tests.{eq-eqb, ne_eqb, eqb-true, eqb-false, ltb-true, ltb-false, not-false}
 use Rattle.code.specs.Code.{cell, check_of, syndrome_of, is_codeword, mended_word, status_of, is_beyond}
-use Rattle.code.specs.CodeLaws.{cell_word, check_lt, check_makes, codeword_damaged, syndrome_zero, syndrome_codeword}
-use Rattle.code.specs.MendLaws.{mended_word_damaged, mended_word_narrow}
-use Rattle.code.specs.StatusLaws.{status_damaged, beyond_wide}
+use Rattle.code.proofs.CodeLaws.{cell_word, check_lt, check_makes, codeword_damaged, syndrome_zero, syndrome_codeword}
+use Rattle.code.proofs.MendLaws.{mended_word_damaged, mended_word_narrow}
+use Rattle.code.proofs.StatusLaws.{status_damaged, beyond_wide}
 use Rattle.words.specs.Bytes.{Bytes, number_of, xor_bytes}
 use Rattle.words.specs.ByteLaws.{zeros_only, xor_zeros}
 use Rattle.cells.specs.Chips.{xor_all, count}

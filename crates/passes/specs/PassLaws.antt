@@ -7,9 +7,9 @@ use Rattle.std.proofs.Math.Bool.{true, false}
 use native.Mathlib.Omega.{arith}
 use Rattle.std.proofs.lemmas.Bool.{eqb-false, not-true, not-false}
 use Rattle.code.specs.Code.{is_codeword}
-use Rattle.code.specs.CodeLaws.{codeword_syndrome}
-use Rattle.code.specs.MendLaws.{mended_word_codeword}
-use Rattle.code.specs.StatusLaws.{codeword_mends}
+use Rattle.code.proofs.CodeLaws.{codeword_syndrome}
+use Rattle.code.proofs.MendLaws.{mended_word_codeword}
+use Rattle.code.proofs.StatusLaws.{codeword_mends}
 use Rattle.code.specs.XorLaws.{xor_zero_eq}
 use Rattle.cells.specs.Chips.{xor_all, count, mask}
 use Rattle.cells.specs.Cells.{word_at, cell_at}

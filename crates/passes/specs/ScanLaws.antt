@@ -8,7 +8,7 @@ use Rattle.std.proofs.Math.Bool.{false, not, ◌&&◌}
 use Rattle.std.proofs.Math.Dec.{eqb}
 use borrow.Author.Tests.{eq-eqb, eqb-true, not-false}
 use Rattle.code.specs.Code.{cell, syndrome_of, is_codeword, check_of}
-use Rattle.code.specs.CodeLaws.{codeword_syndrome, syndrome_codeword, check_lt, check_makes, check_only, check_zero}
+use Rattle.code.proofs.CodeLaws.{codeword_syndrome, syndrome_codeword, check_lt, check_makes, check_only, check_zero}
 use Rattle.lanes.specs.Lanes.{lanes}
 use Rattle.code.specs.XorLaws.{xor_zero_eq}
 use Rattle.cells.specs.Chips.{xor_all, count, mask}

@@ -8,7 +8,7 @@ use Rattle.std.proofs.lemmas.Nat.{xor_block}
 use Rattle.std.proofs.lemmas.Bool.{eqb-false}
 use Rattle.code.specs.Code.{is_codeword, check_of}
 use Rattle.code.specs.TestLaws.{and_first, and_second}
-use Rattle.code.specs.CodeLaws.{syndrome_of_lem, syndrome_lt, check_lt}
+use Rattle.code.proofs.CodeLaws.{syndrome_of_lem, syndrome_lt, check_lt}
 use Rattle.lanes.specs.Lanes.{lanes}
 use Rattle.cells.specs.Chips.{mask}
 use Rattle.cells.specs.ChipLaws.{mask_ext, mask_zero}

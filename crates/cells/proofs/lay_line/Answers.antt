@@ -8,7 +8,7 @@ use lib.Dec.{lit<}
 use lib.Seq.{sets}
 use native.Mathlib.Nat.{le_antisymm}
 use Rattle.code.specs.Code.{check_of}
-use Rattle.code.specs.CodeLaws.{check_lt}
+use Rattle.code.proofs.CodeLaws.{check_lt}
 use Rattle.cells.specs.Chips.{xor_all}
 use Rattle.cells.specs.Checks.{word_every, in_checks, xor_lanes}
 use Rattle.cells.specs.CheckLaws.{checks_at, across_xor, checks_xor}

@@ -6,9 +6,9 @@ use lib.Bits.{bit_xor}
 use borrow.Author.Rules.{rules}
 use borrow.Author.Tests.{ne_eqb}
 use Rattle.code.specs.Code.{is_codeword, position_of, bit_at, status_at}
-use Rattle.code.specs.CodeLaws.{cell_word, cell_check, syndrome_codeword}
-use Rattle.code.specs.MendLaws.{mended_codeword, mended_word_codeword, mended_word_of, mended_check_of}
-use Rattle.code.specs.StatusLaws.{status_codeword, status_other}
+use Rattle.code.proofs.CodeLaws.{cell_word, cell_check, syndrome_codeword}
+use Rattle.code.proofs.MendLaws.{mended_codeword, mended_word_codeword, mended_word_of, mended_check_of}
+use Rattle.code.proofs.StatusLaws.{status_codeword, status_other}
 use Rattle.code.proofs.mend.Goals as goal
 
 pub returns-then-syndrome-eq0 : goal.returns-then-syndrome-eq0

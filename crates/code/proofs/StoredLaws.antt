@@ -7,8 +7,8 @@ use Rattle.std.specs.Int.Bits.{bit_xor, xor_lt, xor_shifted}
 use Rattle.std.proofs.lemmas.Nat.{xor_comm}
 use Rattle.code.specs.XorLaws.{xor_assoc, xor_cancel_r}
 use Rattle.code.specs.Code.{cell, times_x, remainder_in, remainder, syndrome_of, is_codeword, check_of, added_pattern, stored_check, without_added, syndrome_at, position_from, position_of, status_at, status_of}
-use Rattle.code.specs.CodeLaws.{check_lt, check_makes}
-use Rattle.code.specs.StatusLaws.{status_damaged}
+use Rattle.code.proofs.CodeLaws.{check_lt, check_makes}
+use Rattle.code.proofs.StatusLaws.{status_damaged}
 use Rattle.code.specs.declared.Status.TheVariants.{Sound, Beyond}
 
 -- a byte xored into a check byte is xored into the nine bytes
