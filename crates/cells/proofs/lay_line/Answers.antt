@@ -31,7 +31,7 @@ lay_checked-requires c =
     let checks = c.of_eight-eight.ensures in
     let own : (j : ℕ) → ℕ = λ j. check_of (word_every 8 d j) in record {
       sizes = (c.loop-k.invariant.0.size ∙ c.requires.0, omega (arith, c.loop-k-test.true));
-      check = c.of_word.ensures ∙ ap₂ (λ (e o : ℕ). in_checks e o c.loop-k.k) checks.0 checks.1
+      check = c.of_word.ensures ∙ ap₂ (λ (e o : ℕ). in_checks e o c.loop-k.k) checks.even checks.odd
           ∙ checks_at own (λ j. check_lt (word_every 8 d j)) c.loop-k.k c.loop-k-test.true
           ∙ ap check_of (sym c.load_word-word.ensures);
     }
@@ -44,7 +44,7 @@ lay_checked-requires-2 c =
     let checks = c.of_eight-eight.ensures in
     let parity = upto_all c.loop-k.invariant.1 c.loop-k-test.false in record {
       sizes = (c.loop-k.invariant.0.size ∙ c.requires.0, lit< tt);
-      check = c.across.ensures ∙ ap₂ (λ (e o : ℕ). xor_lanes (bit_xor e o)) checks.0 checks.1
+      check = c.across.ensures ∙ ap₂ (λ (e o : ℕ). xor_lanes (bit_xor e o)) checks.even checks.odd
           ∙ across_xor (λ j. check_of (word_every 8 d j)) (λ j. check_lt (word_every 8 d j))
           ∙ checks_xor (word_every 8 d) 8
           ∙ ap check_of (sym parity);
@@ -57,8 +57,8 @@ loop-k-preserved c =
     let taken = c.loop-k-test.true in
     let word = c.load_word-word.ensures in
     let chip_k = ap codeword (word ∙ sym (line_word_eight c.args.bytes.now c.requires.1 l.k taken)) in (
-      blocks_store (chip c.args.bytes.now) 9 9 c.args.line-1.now (λ j i. length_codeword _) (omega arith) l.invariant.0 (omega arith)
-          (c.lay_checked.ensures ∙ ap (sets l.line-1 (9 * l.k)) chip_k),
+      blocks_store (chip c.args.bytes.now) 9 9 c.args.line.now (λ j i. length_codeword _) (omega arith) l.invariant.0 (omega arith)
+          (c.lay_checked.ensures ∙ ap (sets l.line (9 * l.k)) chip_k),
       xor_more (eight_at c.args.bytes.now) l.invariant.1 taken word,
     )
 
@@ -69,6 +69,6 @@ returns c =
     let e : l.k ≡ 8 = le_antisymm l.invariant.1.within c.loop-k-test.false in
     let parity : l.parity ≡ line_word c.args.bytes.now l.k =
     upto_all l.invariant.1 c.loop-k-test.false ∙ ap (line_word c.args.bytes.now) (sym e) in
-    let last = blocks_store (chip c.args.bytes.now) 9 9 c.args.line-1.now (λ j i. length_codeword _) (omega arith) l.invariant.0 (omega arith)
-    (c.lay_checked-2.ensures ∙ ap₂ (λ (i w : ℕ). sets l.line-1 (9 * i) (codeword w)) (sym e) parity) in
-    blocks_all (chip c.args.bytes.now) 9 9 c.args.line-1.now (λ j i. length_codeword _) (omega arith) last (omega arith) c.requires.0
+    let last = blocks_store (chip c.args.bytes.now) 9 9 c.args.line.now (λ j i. length_codeword _) (omega arith) l.invariant.0 (omega arith)
+    (c.lay_checked-2.ensures ∙ ap₂ (λ (i w : ℕ). sets l.line (9 * i) (codeword w)) (sym e) parity) in
+    blocks_all (chip c.args.bytes.now) 9 9 c.args.line.now (λ j i. length_codeword _) (omega arith) last (omega arith) c.requires.0

@@ -14,8 +14,8 @@ returns c =
     let x = c.args in
     let fits = c.ranges in
     let last : ℕ → ℕ → ℕ = λ u v. last_folds (fold_quarters u v) in record {
-      even = c.quarters.ensures.even ∙ ap₂ last p.0 q.0
+      even = c.quarters.ensures.even ∙ ap₂ last p.even q.even
           ∙ all_checks x.a x.c x.e x.g fits.a.fits fits.c.fits fits.e.fits fits.g.fits;
-      odd = c.quarters.ensures.odd ∙ ap₂ last p.1 q.1
+      odd = c.quarters.ensures.odd ∙ ap₂ last p.odd q.odd
           ∙ all_checks x.b x.d x.f x.h fits.b.fits fits.d.fits fits.f.fits fits.h.fits;
     }

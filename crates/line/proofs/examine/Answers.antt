@@ -37,4 +37,4 @@ returns c =
     let flagged = c.pass-flagged.ensures in
     let candidates = c.pass-pass_one.ensures.candidates in
     let found = c.resolve-finding.ensures in
-    (examined_is m cws found.0 candidates flagged (passes_made m cws candidates flagged c.passes_made-passes.ensures), found.1)) in record { examined = all.0; words = all.1.0; checks = all.1.1.0; sizes = all.1.1.1 }
+    (examined_is m cws found.finding candidates flagged (passes_made m cws candidates flagged c.passes_made-passes.ensures), found.1)) in record { examined = all.0; words = all.1.0; checks = all.1.1.0; sizes = all.1.1.1 }

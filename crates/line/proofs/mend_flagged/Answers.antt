@@ -24,7 +24,7 @@ bounds-words-k c =
 pub put-requires : goal.put-requires
 put-requires c =
     let third = c.pass-pass_three.ensures in
-    (third.1.1.1.1.0, third.1.1.1.1.1, bounds-words-k c)
+    (third.sizes.0, third.sizes.1, bounds-words-k c)
 
 pub returns-then-count-eq1 : goal.returns-then-count-eq1
 returns-then-count-eq1 c =

@@ -20,7 +20,7 @@ written line flagged words = joined (λ k. cond (in_mask flagged k) (codeword (g
 pub returns-in_default : goal.returns-in_default
 returns-in_default c =
     let a = c.args in
-    sym (not_answered a.outcome (written a.line-1.now a.flagged a.words.now) a.line-1.now (refused_tag c.in_default.keys2))
+    sym (not_answered a.outcome (written a.line.now a.flagged a.words.now) a.line.now (refused_tag c.in_default.keys2))
 
 pub write_back-requires : goal.write_back-requires
 write_back-requires c =
@@ -30,4 +30,4 @@ pub returns : goal.returns
 returns c =
     let a = c.args in
     c.write_back.ensures
-    ∙ sym (ap (λ (o : Outcome). if_answered o (written a.line-1.now a.flagged a.words.now) a.line-1.now) c.enum_told-1.given.1)
+    ∙ sym (ap (λ (o : Outcome). if_answered o (written a.line.now a.flagged a.words.now) a.line.now) c.enum_told-1.given.1)

@@ -69,7 +69,7 @@ module _ (line words : List ℕ) (flagged : ℕ) (e : length line ≡ 81) where
       ∙ sym (chip_joined (chip line flagged words) long k l))
 
 pub loop-rest-init : goal.loop-rest-init
-loop-rest-init c = laid_none c.args.line-1.now c.args.words.now c.args.flagged c.requires.sizes.0 c.requires.flagged
+loop-rest-init c = laid_none c.args.line.now c.args.words.now c.args.flagged c.requires.sizes.0 c.requires.flagged
 
 pub bounds-words-k : goal.bounds-words-k
 bounds-words-k c = pending_below c.loop-rest.invariant.pending c.loop-rest-test.true c.lowest-k.ensures
@@ -83,12 +83,12 @@ lay_checked-requires c =
 pub loop-rest-preserved : goal.loop-rest-preserved
 loop-rest-preserved c =
     let l = c.loop-rest in
-    laid_more c.args.line-1.now c.args.words.now c.args.flagged c.requires.sizes.0 l.invariant
+    laid_more c.args.line.now c.args.words.now c.args.flagged c.requires.sizes.0 l.invariant
     (pending_lowest l.invariant.pending c.loop-rest-test.true c.lowest-k.ensures c.without_lowest-rest.ensures) c.lay_checked.ensures
 
 pub returns : goal.returns
 returns c =
-    laid_all c.args.line-1.now c.args.words.now c.args.flagged c.requires.sizes.0 c.loop-rest.invariant c.loop-rest-test.false
+    laid_all c.args.line.now c.args.words.now c.args.flagged c.requires.sizes.0 c.loop-rest.invariant c.loop-rest-test.false
 
 pub offset_bounds-words-k : goal.offset_bounds-words-k
 offset_bounds-words-k c = record { fits = omega (arith, bounds-words-k c) }

@@ -11,5 +11,5 @@ use Rattle.memory.proofs.lay.Goals as goal
 pub returns : goal.returns
 returns c =
     let a = c.args in
-    put_back a.memory-1.now a.line (81 * a.line + 81 - 81 * a.line) (add-sub_cancel_left (81 * a.line) 81) (omega arith) _ _
+    put_back a.memory.now a.line (81 * a.line + 81 - 81 * a.line) (add-sub_cancel_left (81 * a.line) 81) (omega arith) _ _
     c.lay_line.ensures (length_stored (line_word a.bytes.now))

@@ -33,7 +33,7 @@ length_written o flagged words x size = either_answered (λ (bs : List ℕ). len
 pub returns : goal.returns
 returns c =
     let a = c.args in
-    let m : List ℕ = a.memory-1.now in
+    let m : List ℕ = a.memory.now in
     let x : List ℕ = line_at m a.line in
     let fits : 81 * a.line + 81 ≤ length m = omega (arith, c.requires.sizes.0) in
     let e : take (81 * a.line + 81 - 81 * a.line) (drop (81 * a.line) m) ≡ x = lent m a.line _ (add-sub_cancel_left (81 * a.line) 81) fits in

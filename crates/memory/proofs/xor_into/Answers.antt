@@ -18,7 +18,7 @@ pub returns : goal.returns
 unfolding faulted
 returns c =
     let a = c.args in
-    let m : List ℕ = a.memory-1.now in
+    let m : List ℕ = a.memory.now in
     let x : List ℕ = line_at m a.line in
     let fits : 81 * a.line + 81 ≤ length m = omega arith in
     let e : take (81 * a.line + 81 - 81 * a.line) (drop (81 * a.line) m) ≡ x = lent m a.line _

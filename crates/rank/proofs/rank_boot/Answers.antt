@@ -15,10 +15,10 @@ use Rattle.rank.proofs.rank_boot.Goals as goal
 pub returns-then-refusal-ne0 : goal.returns-then-refusal-ne0
 returns-then-refusal-ne0 c =
     let a = c.args in
-    let e = boot_refused a.memory-1.now a.catch_words.now _ c.of_boot-refusal.ensures c.if-refusal-ne0.true in record {
+    let e = boot_refused a.memory.now a.catch_words.now _ c.of_boot-refusal.ensures c.if-refusal-ne0.true in record {
       result = ap (λ (x : Rank). record { refusal = c.of_boot-refusal.result; rank = x }) c.fresh.ensures ∙ sym
           (ap (λ (x : Leaves Called). x.result) e);
-      memory = sym (ap (λ (x : Leaves Called). x.memory-1) e);
+      memory = sym (ap (λ (x : Leaves Called). x.memory) e);
     }
 
 pub booted-requires : goal.booted-requires
@@ -27,9 +27,9 @@ booted-requires c =
     let tested = c.of_boot-refusal in
     let if1 = c.if-refusal-ne0 in
     let cleared = c.clear in
-    let p = boot_passed a.memory-1.now a.catch_words.now (sym tested.ensures ∙ if1.false) in
-    let z : length (cleared.new.0) ≡ length a.memory-1.now = ap length cleared.ensures ∙ length-replicate
-    (length a.memory-1.now) 0 in
+    let p = boot_passed a.memory.now a.catch_words.now (sym tested.ensures ∙ if1.false) in
+    let z : length (cleared.new.0) ≡ length a.memory.now = ap length cleared.ensures ∙ length-replicate
+    (length a.memory.now) 0 in
     (omega (arith, z, p.few), p.nine)
 
 pub returns : goal.returns
@@ -39,10 +39,10 @@ returns c =
     let tested = c.of_boot-refusal in
     let if1 = c.if-refusal-ne0 in
     let cleared = c.clear in
-    let e = boot_accepted a.memory-1.now a.catch_words.now _ tested.ensures if1.false in
-    let z : length (cleared.new.0) ≡ length a.memory-1.now = ap length cleared.ensures ∙ length-replicate
-    (length a.memory-1.now) 0 in record {
+    let e = boot_accepted a.memory.now a.catch_words.now _ tested.ensures if1.false in
+    let z : length (cleared.new.0) ≡ length a.memory.now = ap length cleared.ensures ∙ length-replicate
+    (length a.memory.now) 0 in record {
       result = ap (λ (x : Rank). record { refusal = 0; rank = x }) (c.booted.ensures ∙ ap (λ (n : ℕ). booted (n / 81) a.catch_words.now) z)
           ∙ sym (ap (λ (x : Leaves Called). x.result) e);
-      memory = cleared.ensures ∙ sym (ap (λ (x : Leaves Called). x.memory-1) e);
+      memory = cleared.ensures ∙ sym (ap (λ (x : Leaves Called). x.memory) e);
     }

@@ -12,14 +12,14 @@ use Rattle.rank.proofs.rank_patrol.Goals as goal
 pub returns-then-refusal-ne0 : goal.returns-then-refusal-ne0
 returns-then-refusal-ne0 c =
     let a = c.args in
-    let e = patrol_refused a.rank a.memory-1.now a.task a.first a.budget _ c.of_patrol-refusal.ensures c.if-refusal-ne0.true in
-    record { result = sym (ap (λ (x : Leaves PatrolResult). x.result) e); memory = sym (ap (λ (x : Leaves PatrolResult). x.memory-1) e) }
+    let e = patrol_refused a.rank a.memory.now a.task a.first a.budget _ c.of_patrol-refusal.ensures c.if-refusal-ne0.true in
+    record { result = sym (ap (λ (x : Leaves PatrolResult). x.result) e); memory = sym (ap (λ (x : Leaves PatrolResult). x.memory) e) }
 
 pub overflow_sub-left : goal.overflow_sub-left
 overflow_sub-left c =
     let a = c.args in
     let of_patrol = c.of_patrol-refusal in
-    let p = patrol_passed a.rank a.memory-1.now a.task a.first (sym of_patrol.ensures ∙ c.if-refusal-ne0.false) in
+    let p = patrol_passed a.rank a.memory.now a.task a.first (sym of_patrol.ensures ∙ c.if-refusal-ne0.false) in
     omega (arith, p.2)
 
 pub sweep-tally-requires : goal.sweep-tally-requires
@@ -27,7 +27,7 @@ sweep-tally-requires c =
     let a = c.args in
     let of_patrol = c.of_patrol-refusal in
     let if1 = c.if-refusal-ne0 in
-    let p = patrol_passed a.rank a.memory-1.now a.task a.first (sym of_patrol.ensures ∙ if1.false) in (
+    let p = patrol_passed a.rank a.memory.now a.task a.first (sym of_patrol.ensures ∙ if1.false) in (
       p.0.enabled,
       p.0.equal (search rules) (search rules),
       omega (arith, p.0.size),
@@ -44,7 +44,7 @@ returns c =
     let if1 = c.if-refusal-ne0 in
     let allowance = c.allowance-visited in
     let w = sweep in
-    let e = patrol_accepted a.rank a.memory-1.now a.task a.first a.budget _ of_patrol.ensures if1.false
-    ∙ patrol_done a.task a.rank a.memory-1.now a.first a.budget allowance.result w.result _ allowance.ensures
+    let e = patrol_accepted a.rank a.memory.now a.task a.first a.budget _ of_patrol.ensures if1.false
+    ∙ patrol_done a.task a.rank a.memory.now a.first a.budget allowance.result w.result _ allowance.ensures
     w.ensures.0 w.ensures.1.0 w.ensures.1.1 in
-    record { result = sym (ap (λ (x : Leaves PatrolResult). x.result) e); memory = sym (ap (λ (x : Leaves PatrolResult). x.memory-1) e) }
+    record { result = sym (ap (λ (x : Leaves PatrolResult). x.result) e); memory = sym (ap (λ (x : Leaves PatrolResult). x.memory) e) }

@@ -42,19 +42,19 @@ returns-then-refusal-eq0 c =
     let a = c.args in
     let of_read = c.of_read-refusal in
     let zero = c.if-refusal-eq0.true in
-    let refusal_is : of_read.result ≡ read_tests a.rank a.memory-1.now a.task a.line a.buffer-1.now = of_read.ensures in
-    let p = read_passed a.rank a.memory-1.now a.task a.line a.buffer-1.now (sym refusal_is ∙ zero) in
-    let e = read_accepted a.rank a.memory-1.now a.task a.line a.buffer-1.now _ refusal_is zero in
+    let refusal_is : of_read.result ≡ read_tests a.rank a.memory.now a.task a.line a.buffer.now = of_read.ensures in
+    let p = read_passed a.rank a.memory.now a.task a.line a.buffer.now (sym refusal_is ∙ zero) in
+    let e = read_accepted a.rank a.memory.now a.task a.line a.buffer.now _ refusal_is zero in
     let v = c.visit_into-visited in record {
-      result = result_made a.task a.rank a.memory-1.now a.line v.result _ _ _ v.ensures.0
+      result = result_made a.task a.rank a.memory.now a.line v.result _ _ _ v.ensures.0
           (p.0.equal (registers c) (words c)) (registers c) v.ensures.1.0 c.set_registers.ensures c.count.ensures
           ∙ sym (ap (λ (x : LeavesRead). x.result) e);
-      memory = v.ensures.1.1.0 ∙ sym (ap (λ (x : LeavesRead). x.memory-1) e);
-      buffer = v.ensures.1.1.1 ∙ sym (ap (λ (x : LeavesRead). x.buffer-1) e);
+      memory = v.ensures.1.1.0 ∙ sym (ap (λ (x : LeavesRead). x.memory) e);
+      buffer = v.ensures.1.1.1 ∙ sym (ap (λ (x : LeavesRead). x.buffer) e);
     }
 
 pub returns-else-refusal-eq0 : goal.returns-else-refusal-eq0
 returns-else-refusal-eq0 c =
     let a = c.args in
-    let e = read_refused a.rank a.memory-1.now a.task a.line a.buffer-1.now _ c.of_read-refusal.ensures c.if-refusal-eq0.false in
-    record { result = sym (ap (λ (x : LeavesRead). x.result) e); memory = sym (ap (λ (x : LeavesRead). x.memory-1) e); buffer = sym (ap (λ (x : LeavesRead). x.buffer-1) e) }
+    let e = read_refused a.rank a.memory.now a.task a.line a.buffer.now _ c.of_read-refusal.ensures c.if-refusal-eq0.false in
+    record { result = sym (ap (λ (x : LeavesRead). x.result) e); memory = sym (ap (λ (x : LeavesRead). x.memory) e); buffer = sym (ap (λ (x : LeavesRead). x.buffer) e) }

@@ -40,6 +40,6 @@ returns c =
     let a = c.args in
     let of_write = c.of_write-number in record {
       result = ap (λ (x : Rank). record { refusal = of_write.result; rank = x }) c.kept.ensures
-          ∙ write_returned a.rank a.memory-1.now a.line a.bytes.now of_write.result of_write.ensures;
+          ∙ write_returned a.rank a.memory.now a.line a.bytes.now of_write.result of_write.ensures;
       memory = memory c;
     }

@@ -47,4 +47,4 @@ returns c =
     let again = c.rebuild-outcome.ensures in
     let made =
     rebuilt_as (evidence_of a.lines m a.line cws) (line_at m a.line) cws a.xor a.words.now a.checks.now c.requires.xor c.requires.words c.requires.checks c.requires.sizes.3
-    c.requires.sizes.4 (blamed_is c) again.0 again.1.0 again.1.1 in record { outcome = made.0; passes = ap (λ (n : ℕ). 2 * n) (others_are a.lines a.line m cws c.requires.sizes.1 c.first_of-first.ensures c.end_of-end.ensures); words = made.1.words; checks = made.1.checks; sizes = made.1.sizes }
+    c.requires.sizes.4 (blamed_is c) again.outcome again.words again.checks in record { outcome = made.0; passes = ap (λ (n : ℕ). 2 * n) (others_are a.lines a.line m cws c.requires.sizes.1 c.first_of-first.ensures c.end_of-end.ensures); words = made.1.words; checks = made.1.checks; sizes = made.1.sizes }

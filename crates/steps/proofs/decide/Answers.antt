@@ -53,5 +53,5 @@ returns-in-Undecided c =
     let ends =
     subst (λ (f : Finding). Ends e m cws f c.diagnose.result.outcome c.diagnose.result.passes c.diagnose.new.1.1.1.1.1.1.0 c.diagnose.new.1.1.1.1.1.1.1.0)
     (sym c.finding-in-Undecided-1.given.1 ∙ finding_is m cws c.requires.examined)
-    (ends_diagnosed e m cws _ made.0 made.1.0 made.1.1.0 made.1.1.1.0) in
-    record { outcome = ends.outcome; passes = ends.extra; words = ends.words; checks = ends.checks; sizes = made.1.1.1.1 }
+    (ends_diagnosed e m cws _ made.outcome made.passes made.words made.checks) in
+    record { outcome = ends.outcome; passes = ends.extra; words = ends.words; checks = ends.checks; sizes = made.sizes }

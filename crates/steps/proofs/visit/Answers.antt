@@ -13,39 +13,39 @@ use Rattle.steps.proofs.visit.Goals as goal
 pub decide-decision-requires : goal.decide-decision-requires
 decide-decision-requires c =
     let x = c.examine-examined.ensures in
-    record { sizes = (c.requires.0, c.requires.1, c.requires.2, x.1.1.1.0, x.1.1.1.1); examined = x.0; words = x.1.0; checks = x.1.1.0 }
+    record { sizes = (c.requires.0, c.requires.1, c.requires.2, x.sizes.0, x.sizes.1); examined = x.examined; words = x.words; checks = x.checks }
 
 pub write_answered-requires : goal.write_answered-requires
 write_answered-requires c =
     let a = c.args in
-    let m = a.memory-1.now in
+    let m = a.memory.now in
     let cws = a.catch_words.now in
     let x = c.examine-examined.ensures in
     let d = c.decide-decision.ensures in
-    let e = evidence_of a.lines m a.line cws in record { sizes = (omega (arith, c.requires.0, c.requires.1), d.1.1.1.1.0, d.1.1.1.1.1); flagged = flagged_fits e (line_at m a.line) cws x.0; checks = checks_masked e (line_at m a.line) cws x.0 c.decide-decision.new.1.1.1.1.1.0 c.decide-decision.new.1.1.1.1.1.1.0 d.1.1.1.0 }
+    let e = evidence_of a.lines m a.line cws in record { sizes = (omega (arith, c.requires.0, c.requires.1), d.sizes.0, d.sizes.1); flagged = flagged_fits e (line_at m a.line) cws x.examined; checks = checks_masked e (line_at m a.line) cws x.examined c.decide-decision.new.1.1.1.1.1.0 c.decide-decision.new.1.1.1.1.1.1.0 d.checks }
 
 pub overflow_add-result : goal.overflow_add-result
 unfolding evidence_of
 overflow_add-result c =
     let a = c.args in
-    let m = a.memory-1.now in
+    let m = a.memory.now in
     let cws = a.catch_words.now in
     let x = c.examine-examined.ensures in
     let d = c.decide-decision.ensures in
     record {
-      fits = omega (arith, few_passes (evidence_of a.lines m a.line cws) (line_at m a.line) cws x.0 d.1.0 (others_few a.lines a.line c.requires.1));
+      fits = omega (arith, few_passes (evidence_of a.lines m a.line cws) (line_at m a.line) cws x.examined d.passes (others_few a.lines a.line c.requires.1));
     }
 
 pub returns : goal.returns
 unfolding report_in bytes_in word_in
 returns c =
     let a = c.args in
-    let m = a.memory-1.now in
+    let m = a.memory.now in
     let cws = a.catch_words.now in
     let x = c.examine-examined.ensures in
     let d = c.decide-decision.ensures in
     let e = evidence_of a.lines m a.line cws in record {
-      report = report_is e (line_at m a.line) cws x.0 d.0 d.1.0;
+      report = report_is e (line_at m a.line) cws x.examined d.outcome d.passes;
       memory = c.write_answered.ensures
-          ∙ ap (with_line m a.line) (bytes_are e (line_at m a.line) cws x.0 c.decide-decision.new.1.1.1.1.1.0 d.0 d.1.1.0);
+          ∙ ap (with_line m a.line) (bytes_are e (line_at m a.line) cws x.examined c.decide-decision.new.1.1.1.1.1.0 d.outcome d.words);
     }

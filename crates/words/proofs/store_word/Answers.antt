@@ -12,5 +12,5 @@ pub returns : goal.returns
 returns c =
     let x = c.args in
     c.store_little.ensures
-    ∙ ap (λ (w : ℕ). sets x.bytes-1.now x.at (reverse (bytes_of 8 w))) c.swapped.ensures
-    ∙ ap (sets x.bytes-1.now x.at) (swap_swap (bytes_of 8 x.word) (bytes_bytes_of 8 x.word) (length_bytes_of 8 x.word))
+    ∙ ap (λ (w : ℕ). sets x.bytes.now x.at (reverse (bytes_of 8 w))) c.swapped.ensures
+    ∙ ap (sets x.bytes.now x.at) (swap_swap (bytes_of 8 x.word) (bytes_bytes_of 8 x.word) (length_bytes_of 8 x.word))

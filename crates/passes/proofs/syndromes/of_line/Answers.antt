@@ -22,8 +22,8 @@ returns c =
     record {
       eight =
           record {
-            even = (ap₂ bit_xor asked.0 held.0 ∙ made_other m bytes 0) i;
-            odd = (ap₂ bit_xor asked.1 held.1 ∙ made_other m bytes 1) i;
+            even = (ap₂ bit_xor asked.even held.even ∙ made_other m bytes 0) i;
+            odd = (ap₂ bit_xor asked.odd held.odd ∙ made_other m bytes 1) i;
           };
       last =
           (c.syndrome-last.ensures

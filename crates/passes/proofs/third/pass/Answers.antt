@@ -21,11 +21,11 @@ loop-rest-init c = (
 )
 
 pub of_chip-syndrome-requires : goal.of_chip-syndrome-requires
-of_chip-syndrome-requires c = pending_below c.loop-rest.invariant.0.xor-1.pending c.loop-rest-test.true c.lowest-k.ensures
+of_chip-syndrome-requires c = pending_below c.loop-rest.invariant.0.xor.pending c.loop-rest-test.true c.lowest-k.ensures
 
 pub word_at-requires : goal.word_at-requires
 word_at-requires c =
-    (c.requires.sizes.0, pending_below c.loop-rest.invariant.0.xor-1.pending c.loop-rest-test.true c.lowest-k.ensures)
+    (c.requires.sizes.0, pending_below c.loop-rest.invariant.0.xor.pending c.loop-rest-test.true c.lowest-k.ensures)
 
 pub check_at-requires : goal.check_at-requires
 check_at-requires c = word_at-requires c κs
@@ -35,7 +35,7 @@ unfolding cell_at
 mend-sent-requires c =
     let m = c.args.line.now in
     let k : ℕ = c.lowest-k.result in
-    let inside = pending_below c.loop-rest.invariant.0.xor-1.pending c.loop-rest-test.true c.lowest-k.ensures in
+    let inside = pending_below c.loop-rest.invariant.0.xor.pending c.loop-rest-test.true c.lowest-k.ensures in
     c.of_chip-syndrome.ensures
     ∙ ap (λ t. syndrome_in t k) c.requires.syndromes
     ∙ syndrome_in_is m k inside
@@ -48,11 +48,11 @@ pub offset_bounds-words-k : goal.offset_bounds-words-k
 offset_bounds-words-k c = record { fits = omega (arith, bounds-words-k c) }
 
 pub without_lowest-rest-requires : goal.without_lowest-rest-requires
-without_lowest-rest-requires c = let some = c.loop-rest-test.true in (omega arith, c.loop-rest.invariant.0.xor-1.pending.fits)
+without_lowest-rest-requires c = let some = c.loop-rest-test.true in (omega arith, c.loop-rest.invariant.0.xor.pending.fits)
 
 pub loop-rest-smaller : goal.loop-rest-smaller
 loop-rest-smaller c =
-    (pending_lowest c.loop-rest.invariant.0.xor-1.pending c.loop-rest-test.true c.lowest-k.ensures c.without_lowest-rest.ensures).less
+    (pending_lowest c.loop-rest.invariant.0.xor.pending c.loop-rest-test.true c.lowest-k.ensures c.without_lowest-rest.ensures).less
 
 pub loop-rest-preserved : goal.loop-rest-preserved
 unfolding catch_word cell_at chip_status
@@ -60,7 +60,7 @@ loop-rest-preserved c =
     let l = c.loop-rest in
     let m = c.args.line.now in
     let cws = c.args.catch_words.now in
-    let turn = pending_lowest l.invariant.0.xor-1.pending c.loop-rest-test.true c.lowest-k.ensures c.without_lowest-rest.ensures in
+    let turn = pending_lowest l.invariant.0.xor.pending c.loop-rest-test.true c.lowest-k.ensures c.without_lowest-rest.ensures in
     let own : cell c.word_at.result c.check_at.result ≡ cell_at m c.lowest-k.result =
     ap₂ cell c.word_at.ensures c.check_at.ensures in
     let word_is = c.mend-sent.ensures.word ∙ ap mended_word own in

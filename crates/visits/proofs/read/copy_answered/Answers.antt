@@ -12,10 +12,10 @@ use Rattle.visits.proofs.read.copy_answered.Goals as goal
 pub returns-in_default : goal.returns-in_default
 returns-in_default c =
     let a = c.args in
-    sym (not_answered a.outcome (line_of (line_at a.memory.now a.line)) a.buffer-1.now (refused_tag c.in_default.keys2))
+    sym (not_answered a.outcome (line_of (line_at a.memory.now a.line)) a.buffer.now (refused_tag c.in_default.keys2))
 
 pub returns : goal.returns
 returns c =
     let a = c.args in
     c.copy.ensures
-    ∙ sym (ap (λ (o : Outcome). if_answered o (line_of (line_at a.memory.now a.line)) a.buffer-1.now) c.enum_told-1.given.1)
+    ∙ sym (ap (λ (o : Outcome). if_answered o (line_of (line_at a.memory.now a.line)) a.buffer.now) c.enum_told-1.given.1)

@@ -20,15 +20,15 @@ pub returns-then-is_clean : goal.returns-then-is_clean
 returns-then-is_clean c =
     let a = c.args in
     let clean = sym c.is_clean.ensures ∙ c.if-is_clean.true in
-    let fits : 81 * a.line + 81 ≤ length a.memory-1.now = omega (arith, c.requires.1, c.requires.2) in
-    let bytes : Bytes a.memory-1.now = λ i. (c.slice_known-1.given i).fits in record { result = clean_visited a.lines a.memory-1.now a.catch_words.now a.line fits bytes clean; catch_words = clean_words a.lines a.memory-1.now a.catch_words.now a.line fits bytes clean c.requires.0; memory = clean_kept a.lines a.memory-1.now a.catch_words.now a.line fits bytes clean; buffer = c.copy.ensures ∙ clean_buffer a.lines a.memory-1.now a.catch_words.now a.line fits bytes clean a.buffer-1.now }
+    let fits : 81 * a.line + 81 ≤ length a.memory.now = omega (arith, c.requires.1, c.requires.2) in
+    let bytes : Bytes a.memory.now = λ i. (c.slice_known-1.given i).fits in record { result = clean_visited a.lines a.memory.now a.catch_words.now a.line fits bytes clean; catch_words = clean_words a.lines a.memory.now a.catch_words.now a.line fits bytes clean c.requires.0; memory = clean_kept a.lines a.memory.now a.catch_words.now a.line fits bytes clean; buffer = c.copy.ensures ∙ clean_buffer a.lines a.memory.now a.catch_words.now a.line fits bytes clean a.buffer.now }
 
 pub visit-report-requires : goal.visit-report-requires
 visit-report-requires c = (c.requires.0, c.requires.1, c.requires.2)
 
 pub copy_answered-requires : goal.copy_answered-requires
 copy_answered-requires c =
-    let kept = length_visited c.args.lines c.args.memory-1.now c.args.line c.args.catch_words.now c.visit-report.ensures.memory in
+    let kept = length_visited c.args.lines c.args.memory.now c.args.line c.args.catch_words.now c.visit-report.ensures.memory in
     (omega (arith, kept, c.requires.1, c.requires.2), c.requires.3)
 
 pub returns : goal.returns
@@ -42,6 +42,6 @@ returns c =
       catch_words = v.ensures.1.0;
       memory = v.ensures.1.1;
       buffer = c.copy_answered.ensures
-          ∙ visited_buffer a.lines a.memory-1.now a.catch_words.now a.line (omega (arith, c.requires.1, c.requires.2)) (λ i. (c.slice_known-1.given i).fits) a.buffer-1.now
+          ∙ visited_buffer a.lines a.memory.now a.catch_words.now a.line (omega (arith, c.requires.1, c.requires.2)) (λ i. (c.slice_known-1.given i).fits) a.buffer.now
           v.result v.ensures.0 _ v.ensures.1.1 (λ i. (c.slice_known-3-1.given i).fits);
     }

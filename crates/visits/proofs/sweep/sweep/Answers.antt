@@ -94,11 +94,11 @@ returns c =
     let inv = c.loop-i.invariant in
     let none = c.loop-i-test.false in
     let start = accepted_same a.rank c.requires.0 c.requires.1 in record {
-      refused = all_refused inv none ∙ ap (λ (r : Rank). refused_in (outs (visit_of a.task) (device r a.memory-1.now) (up_from a.first a.n))) start;
-      rewritten = all_rewritten_lem inv none ∙ ap (λ (r : Rank). rewritten_in (outs (visit_of a.task) (device r a.memory-1.now) (up_from a.first a.n))) start;
-      after = ap (λ (r : Rank). device r c.loop-i.memory-1) c.accepted.ensures
+      refused = all_refused inv none ∙ ap (λ (r : Rank). refused_in (outs (visit_of a.task) (device r a.memory.now) (up_from a.first a.n))) start;
+      rewritten = all_rewritten_lem inv none ∙ ap (λ (r : Rank). rewritten_in (outs (visit_of a.task) (device r a.memory.now) (up_from a.first a.n))) start;
+      after = ap (λ (r : Rank). device r c.loop-i.memory) c.accepted.ensures
           ∙ all_ended inv none
-          ∙ ap (λ (r : Rank). end (visit_of a.task) (device r a.memory-1.now) (up_from a.first a.n)) start;
+          ∙ ap (λ (r : Rank). end (visit_of a.task) (device r a.memory.now) (up_from a.first a.n)) start;
     }
 
 pub loop-i-preserved : goal.loop-i-preserved
