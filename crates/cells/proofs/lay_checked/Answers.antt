@@ -16,8 +16,8 @@ unfolding with_chip codeword
 returns c =
     let x = c.args in
     let w : List ℕ = bytes_of 8 x.word in
-    let stored : c.store_word.new.0 ≡ sets x.line.now (9 * x.k) w = c.store_word.ensures in
-    c.IsStore-byte.ensures
+    let stored : c.store_word.new.bytes ≡ sets x.line.now (9 * x.k) w = c.store_word.ensures in
+    c.store_byte.ensures
     ∙ ap₂ (λ (l : List ℕ) (v : ℕ). set l (9 * x.k + 8) v) stored c.requires.check
     ∙ ap (λ (n : ℕ). sets (sets x.line.now (9 * x.k) w) (9 * x.k + n) (check_of x.word ∷ [])) (sym (length_bytes_of 8 x.word))
     ∙ sym (sets_append w (check_of x.word ∷ []) x.line.now (9 * x.k))
