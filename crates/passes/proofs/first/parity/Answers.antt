@@ -23,7 +23,7 @@ pub bounds-catch_words-k : goal.bounds-catch_words-k
 bounds-catch_words-k c = pending_below c.loop-rest.invariant.pending c.loop-rest-test.true c.lowest-k.ensures
 
 pub offset_bounds-catch_words-k : goal.offset_bounds-catch_words-k
-offset_bounds-catch_words-k c = record { fits = omega (arith, bounds-catch_words-k c) }
+offset_bounds-catch_words-k c = record { fits = omega (arith, pending_below c.loop-rest.invariant.pending c.loop-rest-test.true c.lowest-k.ensures) }
 
 pub without_lowest-rest-requires : goal.without_lowest-rest-requires
 without_lowest-rest-requires c =

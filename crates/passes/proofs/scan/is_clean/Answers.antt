@@ -18,7 +18,7 @@ pub returns-then-not-none : goal.returns-then-not-none
 returns-then-not-none c =
     let x = c.args in
     fails _ (λ t.
-    eqb-false _ 0 (sym c.none.ensures ∙ not-true _ c.if-not-none.true)
+    eqb-false _ 0 (sym c.none.ensures ∙ c.if-not-none.true)
     (clean_read x.line.now x.catch_words.now (λ i. (c.shared_slice_known-1.given i).fits) t).none)
 
 pub returns-then-check_parity-ne0 : goal.returns-then-check_parity-ne0
@@ -39,7 +39,7 @@ returns c =
     clean_made x.line.now x.catch_words.now bytes
     (record {
       words = sym c.parity.ensures ∙ c.if-parity-ne0.false;
-      none = eqb-true _ 0 (sym c.none.ensures ∙ not-false _ c.if-not-none.false);
+      none = eqb-true _ 0 (sym c.none.ensures ∙ c.if-not-none.false);
       checks = sym c.check_parity.ensures ∙ c.if-check_parity-ne0.false;
       eight = eqb-true _ 0 t;
     }))

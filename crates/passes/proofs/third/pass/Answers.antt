@@ -28,7 +28,7 @@ word_at-requires c =
     (c.requires.sizes.0, pending_below c.loop-rest.invariant.0.xor.pending c.loop-rest-test.true c.lowest-k.ensures)
 
 pub check_at-requires : goal.check_at-requires
-check_at-requires c = word_at-requires c κs
+check_at-requires c = (c.requires.sizes.0, pending_below c.loop-rest.invariant.0.xor.pending c.loop-rest-test.true c.lowest-k.ensures)
 
 pub mend-sent-requires : goal.mend-sent-requires
 unfolding cell_at
@@ -42,10 +42,16 @@ mend-sent-requires c =
     ∙ ap₂ (λ (w b : ℕ). syndrome_of (cell w b)) (sym c.word_at.ensures) (sym c.check_at.ensures)
 
 pub bounds-words-k : goal.bounds-words-k
-bounds-words-k c = of_chip-syndrome-requires c tt
+bounds-words-k c = pending_below c.loop-rest.invariant.0.xor.pending c.loop-rest-test.true c.lowest-k.ensures
+
+pub bounds-checks-k : goal.bounds-checks-k
+bounds-checks-k c = pending_below c.loop-rest.invariant.0.xor.pending c.loop-rest-test.true c.lowest-k.ensures
+
+pub bounds-catch_words-k : goal.bounds-catch_words-k
+bounds-catch_words-k c = pending_below c.loop-rest.invariant.0.xor.pending c.loop-rest-test.true c.lowest-k.ensures
 
 pub offset_bounds-words-k : goal.offset_bounds-words-k
-offset_bounds-words-k c = record { fits = omega (arith, bounds-words-k c) }
+offset_bounds-words-k c = record { fits = omega (arith, pending_below c.loop-rest.invariant.0.xor.pending c.loop-rest-test.true c.lowest-k.ensures) }
 
 pub without_lowest-rest-requires : goal.without_lowest-rest-requires
 without_lowest-rest-requires c = let some = c.loop-rest-test.true in (omega arith, c.loop-rest.invariant.0.xor.pending.fits)
@@ -78,4 +84,4 @@ returns c =
     record { parity = sent.0; beyond = sent.1; words = put_all inv.1.0 none; checks = put_all inv.1.1 none; sizes = (inv.1.0.size, inv.1.1.size) }
 
 pub only_if-beyond-requires : goal.only_if-beyond-requires
-only_if-beyond-requires c = of_chip-syndrome-requires c tt
+only_if-beyond-requires c = pending_below c.loop-rest.invariant.0.xor.pending c.loop-rest-test.true c.lowest-k.ensures
