@@ -23,7 +23,11 @@ pass-pass_one-requires c =
 
 pub pass-flagged-requires : goal.pass-flagged-requires
 pass-flagged-requires c =
-    record { sizes = (pass-pass_one-requires c κs).0; unsound = (pass-pass_one-requires c κs).1; candidates = c.pass-pass_one.ensures.candidates }
+    record {
+      sizes = (c.requires.0, c.requires.1);
+      unsound = unsound_is c.args.line.now c.of_line-syndromes.ensures c.unsound_chips-unsound.ensures;
+      candidates = c.pass-pass_one.ensures.candidates;
+    }
 
 pub resolve-finding-requires : goal.resolve-finding-requires
 resolve-finding-requires c =
@@ -31,10 +35,14 @@ resolve-finding-requires c =
 
 pub returns : goal.returns
 returns c =
-    let all = (let x = c.args in
-    let m = x.line.now in
-    let cws = x.catch_words.now in
+    let m = c.args.line.now in
+    let cws = c.args.catch_words.now in
     let flagged = c.pass-flagged.ensures in
     let candidates = c.pass-pass_one.ensures.candidates in
     let found = c.resolve-finding.ensures in
-    (examined_is m cws found.finding candidates flagged (passes_made m cws candidates flagged c.passes_made-passes.ensures), found.1)) in record { examined = all.0; words = all.1.0; checks = all.1.1.0; sizes = all.1.1.1 }
+    record {
+      examined = examined_is m cws found.finding candidates flagged (passes_made m cws candidates flagged c.passes_made-passes.ensures);
+      words = found.words;
+      checks = found.checks;
+      sizes = found.sizes;
+    }

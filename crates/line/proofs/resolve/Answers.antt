@@ -16,7 +16,12 @@ bounds-catch_words-k c =
     (λ z. omega arith) c.lowest-k.ensures).below
 
 pub put-requires : goal.put-requires
-put-requires c = (c.requires.sizes.2, c.requires.sizes.3, bounds-catch_words-k c)
+put-requires c = (
+  c.requires.sizes.2,
+  c.requires.sizes.3,
+  (lowest_some (is_flagged c.args.line.now c.args.catch_words.now) c.requires.flagged c.if-flags-eq1.true
+      (λ z. omega arith) c.lowest-k.ensures).below,
+)
 
 pub returns-then-flags-eq1 : goal.returns-then-flags-eq1
 unfolding catch_word
@@ -33,8 +38,15 @@ mend_flagged-requires c =
     record { sizes = c.requires.sizes; syndromes = c.requires.syndromes; parity = c.requires.parity; flagged = c.requires.flagged; several = at_least_two c.if-flags-eq0.false c.if-flags-eq1.false }
 
 pub offset_bounds-catch_words-k : goal.offset_bounds-catch_words-k
-offset_bounds-catch_words-k c = record { fits = omega (arith, bounds-catch_words-k c) }
+offset_bounds-catch_words-k c =
+    record {
+      fits = omega (
+        arith,
+        (lowest_some (is_flagged c.args.line.now c.args.catch_words.now) c.requires.flagged c.if-flags-eq1.true
+            (λ z. omega arith) c.lowest-k.ensures).below,
+      );
+    }
 
 pub returns : goal.returns
 returns c =
-    let all = (c.mend_flagged.ensures) in record { finding = all.0; words = all.1.0; checks = all.1.1.0; sizes = all.1.1.1 }
+    record { finding = c.mend_flagged.ensures.finding; words = c.mend_flagged.ensures.words; checks = c.mend_flagged.ensures.checks; sizes = c.mend_flagged.ensures.sizes }

@@ -20,14 +20,14 @@ written line flagged words = joined (λ k. cond (in_mask flagged k) (codeword (g
 pub returns-in_default : goal.returns-in_default
 returns-in_default c =
     let a = c.args in
-    sym (not_answered a.outcome (written a.line.now a.flagged a.words.now) a.line.now (refused_tag c.in_default.keys2))
+    sym (not_answered a.outcome (written a.line.now a.flagged a.words.now) a.line.now c.in_default.not-Answered)
 
 pub write_back-requires : goal.write_back-requires
 write_back-requires c =
-    record { sizes = c.requires.sizes; flagged = c.requires.flagged; checks = c.requires.checks c.enum_told-1.given.1 }
+    record { sizes = c.requires.sizes; flagged = c.requires.flagged; checks = c.requires.checks c.in-Answered.is }
 
 pub returns : goal.returns
 returns c =
     let a = c.args in
     c.write_back.ensures
-    ∙ sym (ap (λ (o : Outcome). if_answered o (written a.line.now a.flagged a.words.now) a.line.now) c.enum_told-1.given.1)
+    ∙ sym (ap (λ (o : Outcome). if_answered o (written a.line.now a.flagged a.words.now) a.line.now) c.in-Answered.is)

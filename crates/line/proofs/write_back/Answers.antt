@@ -14,20 +14,11 @@ use Rattle.cells.specs.MaskLaws.{TakenOff, no_member}
 use Rattle.cells.proofs.Loops.{Pending, pending_lowest, pending_below, pending_next, rest_own, rest_other}
 use borrow.Author.Rules.{rules}
 use Rattle.line.proofs.write_back.Goals as goal
-
--- chip k's nine bytes afterwards
-abbrev chip : List ℕ → ℕ → List ℕ → ℕ → List ℕ
-chip line flagged words k = cond (in_mask flagged k) (codeword (get_or words k 0)) (chip_at line k)
+use Rattle.line.proofs.write_back.Invariants.{chip, Laid}
 
 nine : (b : Bool) (w : ℕ) (bs : List ℕ) → length bs ≡ 9 → length (cond b (codeword w) bs) ≡ 9
 nine true w bs e = length_codeword w
 nine false w bs e = e
-
--- the chips of `rest` are as they were, the others as they will be
-record Laid (line words : List ℕ) (flagged rest : ℕ) (s : List ℕ) : Type 0 where
-  pending : Pending (in_mask flagged) rest
-  size : length s ≡ 81
-  done : (k : ℕ) → k < 9 → chip_at s k ≡ cond (in_mask rest k) (chip_at line k) (chip line flagged words k)
 
 module _ (line words : List ℕ) (flagged : ℕ) (e : length line ≡ 81) where
   laid_none : flagged < 512 → Laid line words flagged flagged line
@@ -91,10 +82,11 @@ returns c =
     laid_all c.args.line.now c.args.words.now c.args.flagged c.requires.sizes.0 c.loop-rest.invariant c.loop-rest-test.false
 
 pub offset_bounds-words-k : goal.offset_bounds-words-k
-offset_bounds-words-k c = record { fits = omega (arith, bounds-words-k c) }
+offset_bounds-words-k c =
+    record { fits = omega (arith, (pending_below c.loop-rest.invariant.pending c.loop-rest-test.true c.lowest-k.ensures)) }
 
 pub bounds-checks-k : goal.bounds-checks-k
-bounds-checks-k c = bounds-words-k c
+bounds-checks-k c = (pending_below c.loop-rest.invariant.pending c.loop-rest-test.true c.lowest-k.ensures)
 
 pub without_lowest-rest-requires : goal.without_lowest-rest-requires
 without_lowest-rest-requires c = let some = c.loop-rest-test.true in (omega arith, c.loop-rest.invariant.pending.fits)

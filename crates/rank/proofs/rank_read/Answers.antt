@@ -46,11 +46,11 @@ returns-then-refusal-eq0 c =
     let p = read_passed a.rank a.memory.now a.task a.line a.buffer.now (sym refusal_is ∙ zero) in
     let e = read_accepted a.rank a.memory.now a.task a.line a.buffer.now _ refusal_is zero in
     let v = c.visit_into-visited in record {
-      result = result_made a.task a.rank a.memory.now a.line v.result _ _ _ v.ensures.0
-          (p.0.equal (registers c) (words c)) (registers c) v.ensures.1.0 c.set_registers.ensures c.count.ensures
+      result = result_made a.task a.rank a.memory.now a.line v.result _ _ _ v.ensures.result
+          (p.0.equal (registers c) (words c)) (registers c) v.ensures.catch_words c.set_registers.ensures c.count.ensures
           ∙ sym (ap (λ (x : LeavesRead). x.result) e);
-      memory = v.ensures.1.1.0 ∙ sym (ap (λ (x : LeavesRead). x.memory) e);
-      buffer = v.ensures.1.1.1 ∙ sym (ap (λ (x : LeavesRead). x.buffer) e);
+      memory = v.ensures.memory ∙ sym (ap (λ (x : LeavesRead). x.memory) e);
+      buffer = v.ensures.buffer ∙ sym (ap (λ (x : LeavesRead). x.buffer) e);
     }
 
 pub returns-else-refusal-eq0 : goal.returns-else-refusal-eq0

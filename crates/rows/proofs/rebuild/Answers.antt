@@ -23,7 +23,7 @@ pub bounds-words-k : goal.bounds-words-k
 bounds-words-k c = lowest_below c.if-blamed-eq0.false c.requires.0 c.lowest-k.ensures
 
 pub put-requires : goal.put-requires
-put-requires c = (c.requires.1, c.requires.2, bounds-words-k c)
+put-requires c = (c.requires.1, c.requires.2, (lowest_below c.if-blamed-eq0.false c.requires.0 c.lowest-k.ensures))
 
 pub returns : goal.returns
 returns c =
@@ -33,4 +33,4 @@ returns c =
     let word : ℕ → ℕ = λ i. bit_xor a.xor (get_or a.words.now i 0) in record { outcome = rw some; words = c.put.ensures.words ∙ ap (λ (i : ℕ). set a.words.now i (word i)) lowest ∙ rw some; checks = c.put.ensures.checks ∙ ap (λ (i : ℕ). set a.checks.now i (check_of (word i))) lowest ∙ rw some }
 
 pub offset_bounds-words-k : goal.offset_bounds-words-k
-offset_bounds-words-k c = record { fits = omega (arith, bounds-words-k c) }
+offset_bounds-words-k c = record { fits = omega (arith, (lowest_below c.if-blamed-eq0.false c.requires.0 c.lowest-k.ensures)) }

@@ -12,9 +12,9 @@ unfolding words_after
 returns c =
     let a = c.args in
     let v = c.visit-report in record {
-      report = v.ensures.0;
+      report = v.ensures.report;
       catch_words = c.move_words.ensures
           ∙ ap (λ (n : ℕ). moved_by n v.result.collisions a.catch_words.now) c.refusal.ensures
-          ∙ ap (λ (w : Report). words_after w a.catch_words.now) v.ensures.0;
-      memory = v.ensures.1;
+          ∙ ap (λ (w : Report). words_after w a.catch_words.now) v.ensures.report;
+      memory = v.ensures.memory;
     }

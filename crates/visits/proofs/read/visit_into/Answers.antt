@@ -38,10 +38,10 @@ returns c =
     let v = c.visit-report in record {
       result = ap (λ (n : ℕ). record { refusal = n; passes = v.result.passes; flagged = v.result.flagged; collisions = v.result.collisions })
           c.refusal.ensures
-          ∙ ap visited_of v.ensures.0;
-      catch_words = v.ensures.1.0;
-      memory = v.ensures.1.1;
+          ∙ ap visited_of v.ensures.report;
+      catch_words = v.ensures.catch_words;
+      memory = v.ensures.memory;
       buffer = c.copy_answered.ensures
           ∙ visited_buffer a.lines a.memory.now a.catch_words.now a.line (omega (arith, c.requires.1, c.requires.2)) (λ i. (c.slice_known-1.given i).fits) a.buffer.now
-          v.result v.ensures.0 _ v.ensures.1.1 (λ i. (c.slice_known-3-1.given i).fits);
+          v.result v.ensures.report _ v.ensures.memory (λ i. (c.slice_known-3-1.given i).fits);
     }
