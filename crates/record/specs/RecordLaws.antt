@@ -91,8 +91,8 @@ counted_all task n totals i l = ap (λ (b : Bool). cond b (counted task n totals
 -- totals within their limit, after one was set within it
 set_within : (xs : List ℕ) (i y : ℕ) → y ≤ total_limit → ((j : ℕ) → slice_index xs j ≤ total_limit) → (j : ℕ) → slice_index (slice_set xs i y) j ≤ total_limit
 set_within [] i y h few = few
-set_within (x ∷ xs) zero y h few = λ j. elim j [ zero ↦ h | suc n ↦ few (suc n) ]
-set_within (x ∷ xs) (suc i) y h few = λ j. elim j [ zero ↦ few 0 | suc n ↦ set_within xs i y h (λ k. few (suc k)) n ]
+set_within (x ∷ xs) zero y h few = λ j. elim j as (λ (v : ℕ). slice_index (slice_set (x ∷ xs) zero y) v ≤ total_limit) [ zero ↦ h | suc n ↦ few (suc n) ]
+set_within (x ∷ xs) (suc i) y h few = λ j. elim j as (λ (v : ℕ). slice_index (slice_set (x ∷ xs) (suc i) y) v ≤ total_limit) [ zero ↦ few 0 | suc n ↦ set_within xs i y h (λ k. few (suc k)) n ]
 
 -- ---- a visit by the number of its outcome, part by part
 

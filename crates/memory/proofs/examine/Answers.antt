@@ -10,6 +10,7 @@ use Rattle.passes.specs.Passes.{is_flagged}
 use Rattle.line.specs.declared.Examined.{Examined}
 use Rattle.line.specs.Visit.{own_word, examined_of}
 use Rattle.line.specs.Found.{ChecksUnlessRefused}
+use Rattle.memory.specs.Lines.{line_at}
 use Rattle.memory.proofs.Parts.{lent}
 use borrow.Author.Rules.{rules}
 use Rattle.memory.proofs.examine.Goals as goal
@@ -23,7 +24,10 @@ Gives x cws r words checks =
 
 pub returns : goal.returns
 returns c =
-    let all = (let a = c.args in
-    subst (λ (x : List ℕ). Gives x a.catch_words.now c.examine.result c.examine.new.1.1.0 c.examine.new.1.1.1.0)
+    let a = c.args in
+    let e = c.examine.ensures in
+    let given : Gives (line_at a.memory.now a.line) a.catch_words.now c.examine.result c.examine.new.words c.examine.new.checks =
+    subst (λ (x : List ℕ). Gives x a.catch_words.now c.examine.result c.examine.new.words c.examine.new.checks)
     (lent a.memory.now a.line _ (add-sub_cancel_left (81 * a.line) 81) (omega (arith, c.requires.0)))
-    c.examine.ensures) in record { examined = all.0; words = all.1.0; checks = all.1.1.0; sizes = all.1.1.1 }
+    (e.examined, (e.words, (e.checks, e.sizes))) in
+    record { examined = given.0; words = given.1.0; checks = given.1.1.0; sizes = given.1.1.1 }

@@ -8,7 +8,7 @@ use Rattle.record.proofs.moved.Goals as goal
 pub loop-k-preserved : goal.loop-k-preserved
 loop-k-preserved c =
     let loop = c.loop-k in
-    let w : ℕ = get_or (c.args.t1) loop.k 0 in
+    let w : ℕ = get_or c.args.words loop.k 0 in
     filled_more loop.invariant (search rules) (c.grown_if.ensures ∙ ap (λ (t : Bool). cond t (grown w) w) c.member-collides.ensures)
 
 pub returns : goal.returns
