@@ -19,7 +19,7 @@ overflow_add-out c =
 pub loop-k-preserved : goal.loop-k-preserved
 loop-k-preserved c =
     let loop = c.loop-k in
-    let count : ℕ = get_or c.args.t1 loop.k 0 in
+    let count : ℕ = get_or c.args.counts loop.k 0 in
     filled_more loop.invariant (search rules) (ap (λ (n : ℕ). count + n) (c.one_if-one.ensures ∙ ap bit c.member.ensures))
 
 pub loop-k-init : goal.loop-k-init

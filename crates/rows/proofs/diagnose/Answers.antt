@@ -12,14 +12,6 @@ use Rattle.rows.proofs.Diagnosed.{others_are, blamed_made, rebuilt_as}
 use borrow.Author.Rules.{rules}
 use Rattle.rows.proofs.diagnose.Goals as goal
 
--- the mask of the blamed chip
-blamed_is : (c : tie.After-blamed-chips) → c.blamed-chips.result
-    ≡ mask (is_blamed (evidence_of c.before.before.before.before.before.before.args.lines c.before.before.before.before.before.before.args.memory.now c.before.before.before.before.before.before.args.line c.before.before.before.before.before.before.args.catch-words.now) (line_at c.before.before.before.before.before.before.args.memory.now c.before.before.before.before.before.before.args.line) c.before.before.before.before.before.before.args.catch-words.now) 9
-blamed_is c =
-    let s = c.before.before.before.before.before.before in
-    blamed_made s.args.lines s.args.line s.args.memory.now s.args.catch-words.now s.requires.0.1 c.before.before.before.before.first_of.ensures c.before.before.before.end_of_lem.ensures c.before.before.flagged-words.ensures.0
-    s.requires.1.0 c.before.reaching.ensures c.blamed-chips.ensures
-
 pub end_of-end-requires : goal.end_of-end-requires
 end_of-end-requires c = omega (arith, c.first_of-first.ensures, first_le c.args.line, c.requires.sizes.1)
 
@@ -37,7 +29,12 @@ flagged_words-counts-requires c =
     )
 
 pub rebuild-outcome-requires : goal.rebuild-outcome-requires
-rebuild-outcome-requires c = (subst⁻¹ (λ (n : ℕ). n < 2 ^ 9) (blamed_is c) (mask_lt _ 9), c.requires.sizes.3, c.requires.sizes.4)
+rebuild-outcome-requires c = (
+  subst⁻¹ (λ (n : ℕ). n < 2 ^ 9) (blamed_made c.args.lines c.args.line c.args.memory.now c.args.catch_words.now c.requires.sizes.1 c.first_of-first.ensures
+      c.end_of-end.ensures c.flagged_words-counts.ensures.counts c.requires.flagged c.reaching.ensures c.blamed_chips-blamed.ensures) (mask_lt _ 9),
+  c.requires.sizes.3,
+  c.requires.sizes.4,
+)
 
 pub returns : goal.returns
 returns c =
@@ -47,4 +44,5 @@ returns c =
     let again = c.rebuild-outcome.ensures in
     let made =
     rebuilt_as (evidence_of a.lines m a.line cws) (line_at m a.line) cws a.xor a.words.now a.checks.now c.requires.xor c.requires.words c.requires.checks c.requires.sizes.3
-    c.requires.sizes.4 (blamed_is c) again.outcome again.words again.checks in record { outcome = made.0; passes = ap (λ (n : ℕ). 2 * n) (others_are a.lines a.line m cws c.requires.sizes.1 c.first_of-first.ensures c.end_of-end.ensures); words = made.1.words; checks = made.1.checks; sizes = made.1.sizes }
+    c.requires.sizes.4 (blamed_made c.args.lines c.args.line c.args.memory.now c.args.catch_words.now c.requires.sizes.1 c.first_of-first.ensures
+    c.end_of-end.ensures c.flagged_words-counts.ensures.counts c.requires.flagged c.reaching.ensures c.blamed_chips-blamed.ensures) again.outcome again.words again.checks in record { outcome = made.0; passes = ap (λ (n : ℕ). 2 * n) (others_are a.lines a.line m cws c.requires.sizes.1 c.first_of-first.ensures c.end_of-end.ensures); words = made.1.words; checks = made.1.checks; sizes = made.1.sizes }

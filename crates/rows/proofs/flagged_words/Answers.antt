@@ -1,6 +1,5 @@
 -- `rows::flagged_words` meets its contract. Assumes nothing.
 use mathlib.Core.Path.{◌≡◌, refl, ap, ◌∙◌}
-use mathlib.Core.Logic.{⊎_elim}
 use mathlib.Core.List.{List}
 use Prim.Native.Nat.{ℕ, ◌-◌}
 use native.Mathlib.Omega.{arith}
@@ -9,6 +8,7 @@ use Rattle.memory.specs.Lines.{line_at}
 use Rattle.rows.proofs.Counting.{Counted, counted_none, counted_skip, counted_more, all_counted, all_few}
 use borrow.Author.Rules.{rules}
 use Rattle.rows.proofs.flagged_words.Goals as goal
+use Rattle.rows.proofs.flagged_words.Goals.{then-other-line, else-other-line}
 
 pub add-requires : goal.add-requires
 add-requires c =
@@ -19,10 +19,10 @@ pub loop-other-preserved : goal.loop-other-preserved
 loop-other-preserved c =
     let inv = c.loop-other.invariant in
     let below = c.loop-other-test.true in
-    ⊎_elim
-    (λ w. counted_more _ _ _ _ inv below w.0.taken w.1.ensures (w.4 ∙ w.3.ensures))
-    (λ w. counted_skip _ _ _ _ inv below w.0.left w.1)
-    c.if-other-line.branch
+    elim c.if-other-line.branch [
+      | then-other-line w ↦ counted_more _ _ _ _ inv below w.if-other-line.true w.flagged-flagged.ensures (w.counts-is ∙ w.add.ensures)
+      | else-other-line w ↦ counted_skip _ _ _ _ inv below w.if-other-line.false w.counts-is
+    ]
 
 pub returns : goal.returns
 returns c =

@@ -20,7 +20,7 @@ pub loop-k-preserved : goal.loop-k-preserved
 loop-k-preserved c =
     let l = c.loop-k in
     let a = c.args in
-    mask_more (λ (j : ℕ). leb a.others (10 * get_or a.t1 j 0)) l.invariant (search rules) c.only_if-reaching.ensures
+    mask_more (λ (j : ℕ). leb a.others (10 * get_or a.counts j 0)) l.invariant (search rules) c.only_if-reaching.ensures
 
 pub returns : goal.returns
 returns c = upto_all c.loop-k.invariant c.loop-k-test.false
