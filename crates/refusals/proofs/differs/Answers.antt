@@ -25,7 +25,7 @@ loop-k-init c = (zero-le, refl)
 pub returns-then-registers-k : goal.returns-then-registers-k
 returns-then-registers-k c =
     let x = c.args in
-    let p : ℕ → Bool = other x.t1 x.t2 in
+    let p : ℕ → Bool = other x.registers x.catch_words in
     sym (positive (count p 9) (λ e. c.if-registers-k.true (eqb-true _ _ (not-false _ (count_none p 9 e c.loop-k.k (search rules))))))
 
 pub loop-k-preserved : goal.loop-k-preserved

@@ -26,7 +26,7 @@ diagnose-requires c =
     let m = line_at a.memory.now a.line in
     let cws = a.catch_words.now in
     let e = evidence_of a.lines a.memory.now a.line cws in
-    let told = c.finding-in-Undecided-1.given.1 in
+    let told = c.in-Undecided.is in
     let same = finding_is m cws c.requires.examined in record { sizes = c.requires.sizes; flagged = flagged_is m cws c.requires.examined; xor = left_xor e m cws told same; words = left_words e m cws told same a.words.now c.requires.words; checks = left_checks e m cws told same a.words.now a.checks.now c.requires.checks }
 
 pub returns-in-Decided : goal.returns-in-Decided
@@ -36,9 +36,9 @@ returns-in-Decided c =
     let m = line_at a.memory.now a.line in
     let cws = a.catch_words.now in
     let e = evidence_of a.lines a.memory.now a.line cws in
-    let told = c.finding-1.given.1 in
+    let told = c.in-Decided.is in
     let ends =
-    subst (λ (f : Finding). Ends e m cws f c.finding-1.given.0.0 0 a.words.now a.checks.now) (sym told ∙ finding_is m cws c.requires.examined)
+    subst (λ (f : Finding). Ends e m cws f c.in-Decided.outcome 0 a.words.now a.checks.now) (sym told ∙ finding_is m cws c.requires.examined)
     (ends_decided e m cws a.words.now a.checks.now told c.requires.words c.requires.checks) in
     record { outcome = ends.outcome; passes = ends.extra; words = ends.words; checks = ends.checks; sizes = (c.requires.sizes.3, c.requires.sizes.4) }
 
@@ -51,7 +51,7 @@ returns-in-Undecided c =
     let e = evidence_of a.lines a.memory.now a.line cws in
     let made = c.diagnose.ensures in
     let ends =
-    subst (λ (f : Finding). Ends e m cws f c.diagnose.result.outcome c.diagnose.result.passes c.diagnose.new.1.1.1.1.1.1.0 c.diagnose.new.1.1.1.1.1.1.1.0)
-    (sym c.finding-in-Undecided-1.given.1 ∙ finding_is m cws c.requires.examined)
+    subst (λ (f : Finding). Ends e m cws f c.diagnose.result.outcome c.diagnose.result.passes c.diagnose.new.words c.diagnose.new.checks)
+    (sym c.in-Undecided.is ∙ finding_is m cws c.requires.examined)
     (ends_diagnosed e m cws _ made.outcome made.passes made.words made.checks) in
     record { outcome = ends.outcome; passes = ends.extra; words = ends.words; checks = ends.checks; sizes = made.sizes }

@@ -22,7 +22,7 @@ write_answered-requires c =
     let cws = a.catch_words.now in
     let x = c.examine-examined.ensures in
     let d = c.decide-decision.ensures in
-    let e = evidence_of a.lines m a.line cws in record { sizes = (omega (arith, c.requires.0, c.requires.1), d.sizes.0, d.sizes.1); flagged = flagged_fits e (line_at m a.line) cws x.examined; checks = checks_masked e (line_at m a.line) cws x.examined c.decide-decision.new.1.1.1.1.1.0 c.decide-decision.new.1.1.1.1.1.1.0 d.checks }
+    let e = evidence_of a.lines m a.line cws in record { sizes = (omega (arith, c.requires.0, c.requires.1), d.sizes.0, d.sizes.1); flagged = flagged_fits e (line_at m a.line) cws x.examined; checks = checks_masked e (line_at m a.line) cws x.examined c.decide-decision.new.words c.decide-decision.new.checks d.checks }
 
 pub overflow_add-result : goal.overflow_add-result
 unfolding evidence_of
@@ -47,5 +47,5 @@ returns c =
     let e = evidence_of a.lines m a.line cws in record {
       report = report_is e (line_at m a.line) cws x.examined d.outcome d.passes;
       memory = c.write_answered.ensures
-          ∙ ap (with_line m a.line) (bytes_are e (line_at m a.line) cws x.examined c.decide-decision.new.1.1.1.1.1.0 d.outcome d.words);
+          ∙ ap (with_line m a.line) (bytes_are e (line_at m a.line) cws x.examined c.decide-decision.new.words d.outcome d.words);
     }
