@@ -2,7 +2,6 @@
 use mathlib.Core.Path.{sym, ap, ◌∙◌}
 use Rattle.line.specs.Visit.{if_answered}
 use Rattle.line.specs.OutcomeLaws.{not_answered}
-use Rattle.line.proofs.Tags.{refused_tag}
 use Rattle.line.specs.declared.Outcome.{Outcome}
 use Rattle.cells.specs.Cells.{line_of}
 use Rattle.memory.specs.Lines.{line_at}
@@ -12,10 +11,10 @@ use Rattle.visits.proofs.read.copy_answered.Goals as goal
 pub returns-in_default : goal.returns-in_default
 returns-in_default c =
     let a = c.args in
-    sym (not_answered a.outcome (line_of (line_at a.memory.now a.line)) a.buffer.now (refused_tag c.in_default.keys2))
+    sym (not_answered a.outcome (line_of (line_at a.memory.now a.line)) a.buffer.now c.in_default.not-Answered)
 
 pub returns : goal.returns
 returns c =
     let a = c.args in
     c.copy.ensures
-    ∙ sym (ap (λ (o : Outcome). if_answered o (line_of (line_at a.memory.now a.line)) a.buffer.now) c.enum_told-1.given.1)
+    ∙ sym (ap (λ (o : Outcome). if_answered o (line_of (line_at a.memory.now a.line)) a.buffer.now) c.in-Answered.is)

@@ -2,7 +2,6 @@
 use mathlib.Core.Path.{◌≡◌, sym, ap, ◌∙◌}
 use mathlib.Core.Bool.{true}
 use mathlib.Core.List.{List}
-use mathlib.Core.Logic.{⊎_elim}
 use Prim.Native.Nat.{ℕ, ◌+◌, ◌-◌, ◌≤◌}
 use lib.ListN.{length, get_or}
 use mir.Syntax.{w32}
@@ -20,50 +19,17 @@ use Rattle.code.specs.Lists.{up_from}
 use Rattle.visits.specs.Visits.{device, visit_of, refused_by, rewritten_by, refused_in, rewritten_in}
 use Rattle.visits.specs.SweepLaws.{Swept, swept_none, Moves, parts_visited, moves_clean, visit_flags, swept_more, all_refused, all_rewritten_lem, all_ended}
 use borrow.Author.Rules.{rules}
-use borrow.Author.Tests.{not-false}
 use Rattle.visits.proofs.sweep.sweep.Goals as goal
+use Rattle.visits.proofs.sweep.sweep.Goals.{then-not-is_clean, else-not-is_clean}
 use Rattle.visits.proofs.sweep.sweep.Invariants.{tally}
-
--- what the record's type says of the totals
-total : (x : tie.Start invariant-loop decreases-loop) (i : ℕ) → get_or x.args.rank.repairs i 0 ≤ total_limit
-total x i =
-    let fits : Fits w32 (get_or x.args.rank.repairs i 0) = search rules in
-    omega (arith, fits.fits)
-
-words : (x : tie.Start invariant-loop decreases-loop) → length x.args.rank.catch_words ≡ 9
-words x = search rules
-
--- the line is visited and counted, or it is clean and left out
-moves : (c : tie.Joined1 invariant-loop decreases-loop)
-    → Moves c.before.before.before.before.before.before.before.before.before.args.task (tally c.before.before.before.before.before.before.before.before.before.args.rank.lines c.before.before.before.before.before.loop.catch-words c.before.before.before.before.before.loop.totals c.before.before.before.before.before.loop.counts) c.before.before.before.before.before.loop.memory
-    (c.before.before.before.before.before.before.before.before.before.args.first + c.before.before.before.before.before.loop.i) (tally c.before.before.before.before.before.before.before.before.before.args.rank.lines c.if1.catch-words c.if1.totals c.if1.counts) c.if1.memory
-unfolding accepted visit_of
-moves c =
-    let a = c.before.before.before.before.before.before.before.before.before.args in
-    let l = c.before.before.before.before.before.loop in
-    let inv = l.invariant in
-    ⊎_elim
-    (λ w.
-    let v = w.3.ensures in
-    record {
-      refused =
-          ap (λ (k : Counts). k.refused) w.13 ∙ w.9.ensures.0 ∙ ap (λ (q : Report). l.counts.refused + refused_by q.outcome) v.0;
-      rewritten =
-          ap (λ (k : Counts). k.rewritten) w.13 ∙ w.9.ensures.1
-          ∙ ap (λ (q : Report). l.counts.rewritten + rewritten_by q.outcome q.flagged) v.0;
-      after =
-          parts_visited a.task a.rank.lines (a.first + l.i) l.catch-words l.totals l.memory v.0 (w.11 ∙ v.1.0)
-          (w.12 ∙ w.8.ensures ∙ ap (λ (n : ℕ). counted_by n a.task w.3.result.flagged l.totals) w.7.ensures) (w.10 ∙ v.1.1);
-    })
-    (λ w.
-    let clean : c.before.is-clean.result ≡ true = search (not-false, w.0.left) in
-    moves_clean (length_line_at _ _ (omega (arith, inv.size))) (sym c.before.is-clean.ensures ∙ clean) inv.words inv.words (inv.total _)
-    (λ i. tally a.rank.lines (w.2 i) (w.3 i) (w.4 i)) w.1)
-    c.if1.branch
 
 pub loop-i-init : goal.loop-i-init
 unfolding accepted
-loop-i-init c = swept_none _ _ _ _ _ (words c) (total c)
+loop-i-init c =
+    let words : length c.args.rank.catch_words ≡ 9 = search rules in
+    let total : (i : ℕ) → get_or c.args.rank.repairs i 0 ≤ total_limit = λ i.
+    let fits : Fits w32 (get_or c.args.rank.repairs i 0) = search rules in omega (arith, fits.fits) in
+    swept_none _ _ _ _ _ words total
 
 pub is_clean-requires : goal.is_clean-requires
 unfolding accepted
@@ -101,5 +67,27 @@ returns c =
           ∙ ap (λ (r : Rank). end (visit_of a.task) (device r a.memory.now) (up_from a.first a.n)) start;
     }
 
+-- the line is visited and counted, or it is clean and left out
 pub loop-i-preserved : goal.loop-i-preserved
-loop-i-preserved c = swept_more c.loop-i.invariant c.loop-i-test.true (moves c)
+unfolding accepted visit_of
+loop-i-preserved c =
+    let a = c.args in
+    let l = c.loop-i in
+    let after = c.if-not-is_clean in
+    let inv = l.invariant in
+    let moves : Moves a.task (tally a.rank.lines l.catch_words l.totals l.counts) l.memory (a.first + l.i) (tally a.rank.lines after.catch_words after.totals after.counts) after.memory =
+    elim after.branch [
+      | then-not-is_clean w ↦
+          let v = w.visit-report.ensures in
+          let k = w.with_visit-counts.ensures in
+          record {
+            refused = ap (λ (k : Counts). k.refused) w.counts-is ∙ k.refused ∙ ap (λ (q : Report). l.counts.refused + refused_by q.outcome) v.report;
+            rewritten = ap (λ (k : Counts). k.rewritten) w.counts-is ∙ k.rewritten ∙ ap (λ (q : Report). l.counts.rewritten + rewritten_by q.outcome q.flagged) v.report;
+            after = parts_visited a.task a.rank.lines (a.first + l.i) l.catch_words l.totals l.memory v.report (w.catch_words-is ∙ v.catch_words)
+                (w.totals-is ∙ w.count.ensures ∙ ap (λ (n : ℕ). counted_by n a.task w.visit-report.result.flagged l.totals) w.refusal.ensures) (w.memory-is ∙ v.memory);
+          }
+      | else-not-is_clean w ↦
+          moves_clean (length_line_at _ _ (omega (arith, inv.size))) (sym c.is_clean.ensures ∙ w.if-not-is_clean.false) inv.words inv.words (inv.total _)
+          (λ i. tally a.rank.lines (w.catch_words-is i) (w.totals-is i) (w.counts-is i)) w.memory-is
+    ] in
+    swept_more inv c.loop-i-test.true moves
