@@ -28,7 +28,7 @@ booted-requires c =
     let if1 = c.if-refusal-ne0 in
     let cleared = c.clear in
     let p = boot_passed a.memory.now a.catch_words.now (sym tested.ensures ∙ if1.false) in
-    let z : length (cleared.new.0) ≡ length a.memory.now = ap length cleared.ensures ∙ length-replicate
+    let z : length cleared.new.memory ≡ length a.memory.now = ap length cleared.ensures ∙ length-replicate
     (length a.memory.now) 0 in
     (omega (arith, z, p.few), p.nine)
 
@@ -40,7 +40,7 @@ returns c =
     let if1 = c.if-refusal-ne0 in
     let cleared = c.clear in
     let e = boot_accepted a.memory.now a.catch_words.now _ tested.ensures if1.false in
-    let z : length (cleared.new.0) ≡ length a.memory.now = ap length cleared.ensures ∙ length-replicate
+    let z : length cleared.new.memory ≡ length a.memory.now = ap length cleared.ensures ∙ length-replicate
     (length a.memory.now) 0 in record {
       result = ap (λ (x : Rank). record { refusal = 0; rank = x }) (c.booted.ensures ∙ ap (λ (n : ℕ). booted (n / 81) a.catch_words.now) z)
           ∙ sym (ap (λ (x : Leaves Called). x.result) e);

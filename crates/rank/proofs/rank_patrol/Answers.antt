@@ -46,5 +46,5 @@ returns c =
     let w = sweep in
     let e = patrol_accepted a.rank a.memory.now a.task a.first a.budget _ of_patrol.ensures if1.false
     ∙ patrol_done a.task a.rank a.memory.now a.first a.budget allowance.result w.result _ allowance.ensures
-    w.ensures.0 w.ensures.1.0 w.ensures.1.1 in
+    w.ensures.refused w.ensures.rewritten w.ensures.after in
     record { result = sym (ap (λ (x : Leaves PatrolResult). x.result) e); memory = sym (ap (λ (x : Leaves PatrolResult). x.memory) e) }

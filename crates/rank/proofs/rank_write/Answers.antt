@@ -1,6 +1,5 @@
 -- `rank::rank_write` meets its contract. Assumes nothing.
 use mathlib.Core.Path.{◌≡◌, sym, ap, ◌∙◌}
-use mathlib.Core.Logic.{⊎_elim}
 use native.Mathlib.Omega.{arith}
 use lib.ListN.{length}
 use Rattle.record.specs.declared.Rank.{Rank}
@@ -12,19 +11,7 @@ use Rattle.refusals.specs.RefusalLaws.{write_passed}
 use Rattle.rank.specs.CallLaws.{write_refused, write_accepted, write_returned}
 use borrow.Author.Rules.{rules}
 use Rattle.rank.proofs.rank_write.Goals as goal
-
--- the line is laid, or the memory is as it was
-memory : (c : tie.Joined1)
-    → c.if1.memory
-    ≡ (write_of c.before.before.before.before.before.args.rank c.before.before.before.before.before.args.memory.now c.before.before.before.before.before.args.line c.before.before.before.before.before.args.bytes.now).memory
-unfolding write_by
-memory c =
-    let a = c.before.before.before.before.before.args in
-    let refusal_is : c.before.of_write.result ≡ write_refusal a.rank a.memory.now a.line a.bytes.now = c.before.of_write.ensures in
-    ⊎_elim
-    (λ w. w.5 ∙ w.2.ensures ∙ sym (ap (λ (x : Leaves Called). x.memory) (write_accepted a.rank a.memory.now a.line a.bytes.now _ refusal_is (omega (arith, w.0.taken)))))
-    (λ w. w.1 ∙ sym (ap (λ (x : Leaves Called). x.memory) (write_refused a.rank a.memory.now a.line a.bytes.now _ refusal_is (omega (arith, w.0.left)))))
-    c.if1.branch
+use Rattle.rank.proofs.rank_write.Goals.{then-number-eq0, else-number-eq0}
 
 pub lay-requires : goal.lay-requires
 lay-requires c =
@@ -33,13 +20,27 @@ lay-requires c =
 
 pub shape_of-memory : goal.shape_of-memory
 shape_of-memory c =
-    ⊎_elim (λ w. ap length (w.5 ∙ w.2.ensures) ∙ length_with_line _ _ _) (λ w. ap length w.1) c.if-number-eq0.branch
+    elim c.if-number-eq0.branch [
+      | then-number-eq0 w ↦ ap length (w.memory-is ∙ w.lay.ensures) ∙ length_with_line _ _ _
+      | else-number-eq0 w ↦ ap length w.memory-is
+    ]
 
+-- the line is laid, or the memory is as it was
 pub returns : goal.returns
+unfolding write_by
 returns c =
     let a = c.args in
-    let of_write = c.of_write-number in record {
+    let of_write = c.of_write-number in
+    let refusal_is : of_write.result ≡ write_refusal a.rank a.memory.now a.line a.bytes.now = of_write.ensures in
+    let memory : c.if-number-eq0.memory ≡ (write_of a.rank a.memory.now a.line a.bytes.now).memory =
+    elim c.if-number-eq0.branch [
+      | then-number-eq0 w ↦ w.memory-is ∙ w.lay.ensures
+          ∙ sym (ap (λ (x : Leaves Called). x.memory) (write_accepted a.rank a.memory.now a.line a.bytes.now _ refusal_is (omega (arith, w.if-number-eq0.true))))
+      | else-number-eq0 w ↦ w.memory-is
+          ∙ sym (ap (λ (x : Leaves Called). x.memory) (write_refused a.rank a.memory.now a.line a.bytes.now _ refusal_is (omega (arith, w.if-number-eq0.false))))
+    ] in
+    record {
       result = ap (λ (x : Rank). record { refusal = of_write.result; rank = x }) c.kept.ensures
           ∙ write_returned a.rank a.memory.now a.line a.bytes.now of_write.result of_write.ensures;
-      memory = memory c;
+      memory = memory;
     }
