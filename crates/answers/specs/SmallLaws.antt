@@ -13,7 +13,7 @@ use Rattle.line.specs.declared.Outcome.TheVariants.{Answered, Unlocated, Uncorre
 use Rattle.refusals.specs.Refusals.{line_out, buffer_out, chip_out, pattern_out, not_ready, memory_differs, register_differs, task_out, refused_if, first_of, state_refusals, write_refusal, read_tests, fault_refusal}
 use Rattle.memory.specs.Lines.{line_at}
 use Rattle.rows.specs.Rows.{report_in}
-use Rattle.rows.specs.RowLaws.{passes_most}
+use Rattle.rows.proofs.RowLaws.{passes_most}
 use Rattle.visits.specs.Visits.{visit_of, result_of, read_by}
 use Rattle.rank.specs.Calls.{write_by, write_of, read_of, fault_by, fault_of}
 use Rattle.record.specs.declared.Rank.{Rank}

@@ -18,7 +18,7 @@ use Rattle.words.specs.ByteLaws.{number_lt}
 use Rattle.cells.specs.Chips.{count}
 use Rattle.cells.specs.ChipLaws.{count_zero, count_some, count_one, count_le, count_none, count_found}
 use Rattle.line.specs.Damage.{Tolerated, damaged_patterns, Answerable, few_damaged, all_undone, some_beyond, LeftUndecided}
-use Rattle.line.specs.ToleratedLaws.{tolerated_ends}
+use Rattle.line.proofs.ToleratedLaws.{tolerated_ends}
 use Rattle.claims.specs.Plain.{Line, Plain, damage, damaged_chips, wide, wide_beyond, undone, blames, wide_blamed, answers}
 use Rattle.claims.specs.Premises.{LinePremise, is_diagnosed, Premise}
 use Rattle.claims.specs.Damages.{Refused}

@@ -16,7 +16,7 @@ use Rattle.record.specs.Record.{moved_by, counted_by, after_visit, renewed}
 use Rattle.record.specs.RecordLaws.{after_visit_parts}
 use Rattle.memory.specs.Lines.{with_line}
 use Rattle.rows.specs.Rows.{report_in, bytes_in}
-use Rattle.rows.specs.RowLaws.{outcome_in_free, flagged_in_free, word_in_free, bytes_in_free}
+use Rattle.rows.proofs.RowLaws.{outcome_in_free, flagged_in_free, word_in_free, bytes_in_free}
 use Rattle.visits.specs.Visits.{Device, device, visit_of, found_line}
 use Rattle.claims.specs.Reports.{flagged_mask}
 use Rattle.claims.specs.CatchWords.{EqualButCatchWords, CatchWordsDontMatter}

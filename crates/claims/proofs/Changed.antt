@@ -15,7 +15,7 @@ use Rattle.words.specs.Bytes.{number_of, Bytes}
 use Rattle.cells.specs.ChipLaws.{count_zero}
 use Rattle.line.specs.Blame.{Evidence}
 use Rattle.line.specs.Visit.{bytes_after}
-use Rattle.line.specs.AnsweredLaws.{length_after}
+use Rattle.line.proofs.AnsweredLaws.{length_after}
 use Rattle.visits.specs.Runs.{outs, end}
 use Rattle.code.specs.ListLaws.{sum_range}
 use Rattle.code.specs.Lists.{up_from, Every}

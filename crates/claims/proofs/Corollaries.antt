@@ -16,7 +16,7 @@ use Rattle.passes.specs.Passes.{beyond_chips}
 use Rattle.line.specs.Damage.{Answerable}
 use Rattle.cells.specs.ChipLaws.{joined_ext}
 use Rattle.line.specs.FormerVisit.{report_with, AsBeforeRows}
-use Rattle.line.specs.FormerVisitLaws.{former_answered, before_rows, not_diagnosed_before}
+use Rattle.line.proofs.FormerVisitLaws.{former_answered, before_rows, not_diagnosed_before}
 use Rattle.memory.specs.Lines.{line_at, with_line}
 use Rattle.rows.specs.Rows.{evidence_of, report_in, word_in, bytes_in}
 use Rattle.record.specs.Record.{after_visit}

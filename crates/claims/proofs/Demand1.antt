@@ -19,7 +19,7 @@ use Rattle.rows.specs.Rows.{evidence_of, report_in, bytes_in}
 use Rattle.memory.specs.LineLaws.{line_same}
 use Rattle.refusals.specs.Refusals.{line_out, buffer_out, chip_out, pattern_out, catch_words_out, memory_out, not_ready, memory_differs, register_differs, unlocated, uncorrectable, task_out, refused_if, refused20, refused21, refused2, first_of, visit_refusals, boot_refusal, write_refusal, read_tests, read_refusal, patrol_refusal, renew_refusal, fault_refusal}
 use Rattle.refusals.specs.RefusalLaws.{first_of_both}
-use Rattle.refusals.specs.VisitRefusalLaws.{visit_refusal}
+use Rattle.refusals.proofs.VisitRefusalLaws.{visit_refusal}
 use Rattle.visits.specs.Visits.{visit_of, result_of, read_by}
 use Rattle.rank.specs.Calls.{boot_by, boot_of, write_by, write_of, read_of, patrol_lines, patrol_by, patrol_of, renew_by, renew_of, fault_by, fault_of}
 use Rattle.claims.specs.Demand1.{BootRefusals, WriteRefusals, ReadRefusals, PatrolRefusals, RenewRefusals, FaultRefusals}

@@ -20,10 +20,10 @@ use Rattle.cells.specs.Cells.{line_word}
 use Rattle.passes.specs.Passes.{is_flagged}
 use Rattle.line.specs.Blame.{Evidence, reaches, other_reaches, is_blamed}
 use Rattle.line.specs.DamageLaws.{line_parity}
-use Rattle.line.specs.ToleratedLaws.{damaged_flagged, visit_flagged}
+use Rattle.line.proofs.ToleratedLaws.{damaged_flagged, visit_flagged}
 use Rattle.memory.specs.Lines.{line_at}
 use Rattle.rows.specs.Rows.{row_first, row_size, other_lines, evidence_of}
-use Rattle.rows.specs.RowLaws.{first_le, first_near}
+use Rattle.rows.proofs.RowLaws.{first_le, first_near}
 use Rattle.claims.specs.Plain.{Line, Plain, damage, is_other, other_count, unsound_lines, reaches_tenth, blames}
 use Rattle.claims.specs.Claim.{laid}
 use Rattle.claims.proofs.Related.{Formed, Holds}

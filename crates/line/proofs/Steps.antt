@@ -21,7 +21,7 @@ use Rattle.cells.specs.Cells.{cell_at}
 use Rattle.passes.specs.Passes.{catch_word, pass_one, pass_three, chip_status, is_flagged_beyond, beyond_chips, is_candidate, sent_complement, is_flagged, is_collision, flagged_chips, xor_others}
 use Rattle.line.specs.Visit.{third_finding, third_word, must_cancel, finding_by, finding_of, own_word_by, own_word, own_passes, examined_of}
 use Rattle.line.specs.Found.{may_answer, ChecksUnlessRefused}
-use Rattle.passes.specs.PassLaws.{sent_catch_word, third_sent, flagged_is, flagged_beyond_is}
+use Rattle.passes.proofs.PassLaws.{sent_catch_word, third_sent, flagged_is, flagged_beyond_is}
 use Rattle.line.proofs.Places.{placed_set, checked_set}
 use Rattle.cells.proofs.Loops.{pending_all, pending_lowest, member_is}
 use Rattle.line.specs.declared.Examined.{Examined}

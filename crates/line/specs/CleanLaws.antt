@@ -10,7 +10,7 @@ use Rattle.cells.specs.Cells.{chip_at}
 use Rattle.cells.specs.CellLaws.{chips_line}
 use Rattle.passes.specs.Passes.{is_candidate, sent_complement, is_flagged, is_collision, flagged_chips}
 use Rattle.passes.specs.Scan.{is_clean}
-use Rattle.passes.specs.ScanLaws.{clean_none, clean_parity}
+use Rattle.passes.proofs.ScanLaws.{clean_none, clean_parity}
 use Rattle.line.specs.Blame.{Evidence}
 use Rattle.line.specs.Visit.{must_cancel, finding_by, finding_of, outcome_by, outcome_of, if_answered, with_words, written_back, bytes_after, own_passes, row_passes, report_of}
 use Rattle.line.specs.declared.Outcome.{Outcome}

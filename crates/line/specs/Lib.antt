@@ -6,10 +6,5 @@ pub mod FormerVisit
 pub mod OutcomeLaws
 pub mod FindingLaws
 pub mod BlameLaws
-pub mod ClosedFormLaws
-pub mod CatchWordLaws
-pub mod AnsweredLaws
 pub mod CleanLaws
-pub mod FormerVisitLaws
 pub mod DamageLaws
-pub mod ToleratedLaws

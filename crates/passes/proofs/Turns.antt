@@ -15,7 +15,7 @@ use Rattle.cells.specs.ChipLaws.{xor_all_ext, xor_all_change, mask_ext, mask_zer
 use Rattle.cells.specs.MaskLaws.{TakenOff, mask_with, no_member}
 use Rattle.cells.proofs.Loops.{Pending, pending_all, pending_next, rest_own, rest_other, member_is}
 use Rattle.passes.specs.Passes.{catch_word, pass_one, pass_three, is_flagged, is_flagged_beyond, is_unsound, mended_at, beyond_at}
-use Rattle.passes.specs.PassLaws.{sent_word, sent_catch_word, third_sent, sound_mended, sound_mends, flagged_is, flagged_beyond_is}
+use Rattle.passes.proofs.PassLaws.{sent_word, sent_catch_word, third_sent, sound_mended, sound_mends, flagged_is, flagged_beyond_is}
 
 -- ---- values put at the places of a mask's chips
 

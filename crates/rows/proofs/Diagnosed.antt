@@ -30,7 +30,7 @@ use Rattle.line.specs.declared.Outcome.TheVariants.{Answered, Uncorrectable}
 use Rattle.line.specs.declared.Finding.TheVariants.{Undecided}
 use Rattle.memory.specs.Lines.{line_at}
 use Rattle.rows.specs.Rows.{row_first, row_size, other_lines, evidence_of}
-use Rattle.rows.specs.RowLaws.{others_size, others_few}
+use Rattle.rows.proofs.RowLaws.{others_size, others_few}
 use Rattle.line.proofs.Places.{placed_set, checked_set}
 
 module _ (e : Evidence) (m cws : List ℕ) where

@@ -1,2 +1,3 @@
 mod Counting
 mod Diagnosed
+pub mod RowLaws

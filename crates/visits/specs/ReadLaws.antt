@@ -11,7 +11,7 @@ use Rattle.cells.specs.ChipLaws.{joined_ext}
 use Rattle.cells.specs.Cells.{word_at, line_of}
 use Rattle.passes.specs.Scan.{is_clean}
 use Rattle.line.specs.Visit.{if_answered, report_of, refusal_of}
-use Rattle.line.specs.AnsweredLaws.{word_after, length_after}
+use Rattle.line.proofs.AnsweredLaws.{word_after, length_after}
 use Rattle.line.specs.declared.Report.{Report}
 use Rattle.line.specs.declared.Outcome.{Outcome}
 use Rattle.line.specs.declared.Outcome.TheVariants.{Answered, Unlocated, Uncorrectable}

@@ -8,7 +8,7 @@ use Rattle.cells.specs.Chips.{mask}
 use Rattle.passes.specs.Passes.{is_unsound}
 use Rattle.passes.specs.declared.syndromes.Syndromes.{Syndromes}
 use Rattle.passes.specs.Syndromes.{syndromes_of, syndrome_in}
-use Rattle.passes.specs.SyndromeLaws.{unsound_mask}
+use Rattle.passes.proofs.SyndromeLaws.{unsound_mask}
 use Rattle.line.proofs.Steps.{passes_made, examined_is}
 use borrow.Author.Rules.{rules}
 use Rattle.line.proofs.examine.Goals as goal

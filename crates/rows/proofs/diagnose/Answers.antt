@@ -7,7 +7,7 @@ use Rattle.cells.specs.ChipLaws.{mask_lt}
 use Rattle.line.specs.Blame.{is_blamed}
 use Rattle.memory.specs.Lines.{line_at}
 use Rattle.rows.specs.Rows.{evidence_of}
-use Rattle.rows.specs.RowLaws.{first_le}
+use Rattle.rows.proofs.RowLaws.{first_le}
 use Rattle.rows.proofs.Diagnosed.{others_are, blamed_made, rebuilt_as}
 use borrow.Author.Rules.{rules}
 use Rattle.rows.proofs.diagnose.Goals as goal

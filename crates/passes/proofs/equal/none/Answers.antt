@@ -6,7 +6,7 @@ use Rattle.cells.specs.Chips.{count}
 use Rattle.cells.specs.ChipLaws.{count_none, count_next}
 use Rattle.passes.specs.Passes.{catch_word}
 use Rattle.passes.specs.Scan.{equals_catch_word}
-use Rattle.passes.specs.ScanLaws.{fails}
+use Rattle.passes.proofs.ScanLaws.{fails}
 use Rattle.cells.proofs.Loops.{Upto, none_yet, upto_more, upto_all}
 use borrow.Author.Rules.{rules}
 use Rattle.passes.proofs.equal.none.Goals as goal

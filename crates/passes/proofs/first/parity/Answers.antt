@@ -4,7 +4,7 @@ use native.Mathlib.Omega.{arith}
 use Rattle.cells.specs.Cells.{word_at}
 use Rattle.cells.proofs.Loops.{pending_lowest, pending_below}
 use Rattle.passes.specs.Passes.{catch_word, pass_one, is_unsound}
-use Rattle.passes.specs.PassLaws.{sent_held, sent_catch_word}
+use Rattle.passes.proofs.PassLaws.{sent_held, sent_catch_word}
 use Rattle.passes.proofs.Turns.{Exchanged, exchanged_none, exchanged_more, exchanged_all}
 use borrow.Author.Rules.{rules}
 use Rattle.passes.proofs.first.parity.Goals as goal

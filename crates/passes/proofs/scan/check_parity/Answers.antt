@@ -6,7 +6,7 @@ use Rattle.cells.specs.Chips.{xor_all}
 use Rattle.cells.specs.Cells.{check_at}
 use Rattle.cells.specs.Checks.{xor_lanes}
 use Rattle.cells.specs.CheckLaws.{across_xor}
-use Rattle.passes.specs.ScanLaws.{check_fits}
+use Rattle.passes.proofs.ScanLaws.{check_fits}
 use borrow.Author.Rules.{rules}
 use Rattle.passes.proofs.scan.check_parity.Goals as goal
 

@@ -5,7 +5,7 @@ use borrow.Author.Tests.{eq-eqb, eqb-true}
 use Rattle.cells.specs.Cells.{word_at}
 use Rattle.words.specs.Bytes.{Bytes}
 use Rattle.cells.specs.Checks.{word_every}
-use Rattle.passes.specs.ScanLaws.{same_test, fails, eight_made, eight_read}
+use Rattle.passes.proofs.ScanLaws.{same_test, fails, eight_made, eight_read}
 use borrow.Author.Rules.{rules}
 use Rattle.passes.proofs.scan.eight_sound.Goals as goal
 

@@ -2,7 +2,7 @@
 use mathlib.Core.Path.{sym, ◌∙◌}
 use borrow.Author.Tests.{eq-eqb, eqb-true, eqb-false, not-true, not-false}
 use Rattle.words.specs.Bytes.{Bytes}
-use Rattle.passes.specs.ScanLaws.{same_test, fails, clean_made, clean_read}
+use Rattle.passes.proofs.ScanLaws.{same_test, fails, clean_made, clean_read}
 use borrow.Author.Rules.{rules}
 use Rattle.passes.proofs.scan.is_clean.Goals as goal
 

@@ -7,7 +7,7 @@ use Rattle.cells.specs.Cells.{word_at, cell_at}
 use Rattle.cells.specs.Checks.{word_every}
 use Rattle.words.specs.Bytes.{Bytes}
 use Rattle.passes.specs.Syndromes.{syndromes_of}
-use Rattle.passes.specs.SyndromeLaws.{made_other}
+use Rattle.passes.proofs.SyndromeLaws.{made_other}
 use borrow.Author.Rules.{rules}
 use Rattle.passes.proofs.syndromes.of_line.Goals as goal
 

@@ -8,7 +8,7 @@ use Rattle.cells.specs.Cells.{cell_at}
 use Rattle.cells.proofs.Loops.{pending_lowest, pending_below}
 use Rattle.passes.specs.Passes.{catch_word, is_flagged, chip_status}
 use Rattle.passes.specs.Syndromes.{syndrome_in}
-use Rattle.passes.specs.SyndromeLaws.{syndrome_in_is}
+use Rattle.passes.proofs.SyndromeLaws.{syndrome_in_is}
 use Rattle.passes.proofs.Turns.{Put, put_none, put_more, put_all, Sent, sent_none, sent_more, sent_all}
 use borrow.Author.Rules.{rules}
 use Rattle.passes.proofs.third.pass.Goals as goal

@@ -13,10 +13,10 @@ use Rattle.code.specs.ListLaws.{length_up_from, length_without, without_most}
 use Rattle.cells.specs.Chips.{xor_all, bit, count}
 use Rattle.cells.specs.ChipLaws.{bit_lt}
 use Rattle.passes.specs.Passes.{is_candidate, is_flagged, flagged_chips, pass_three, beyond_chips}
-use Rattle.passes.specs.PassLaws.{flagged_is}
+use Rattle.passes.proofs.PassLaws.{flagged_is}
 use Rattle.line.specs.Blame.{Evidence}
 use Rattle.line.specs.Visit.{finding_of, own_passes, outcome_by, outcome_of, word_of, bytes_after, row_passes, report_of}
-use Rattle.line.specs.CatchWordLaws.{outcome_free, word_free, bytes_free, flagged_free}
+use Rattle.line.proofs.CatchWordLaws.{outcome_free, word_free, bytes_free, flagged_free}
 use Rattle.line.specs.FindingLaws.{undecided_made, three_passes, two_beyond_lem}
 use Rattle.line.specs.declared.Outcome.TheVariants.{Uncorrectable}
 use Rattle.line.specs.declared.Finding.{Finding}

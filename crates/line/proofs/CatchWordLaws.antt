@@ -6,10 +6,10 @@ use Rattle.std.proofs.Common.{sym, ◌∙◌}
 use Rattle.cells.specs.Chips.{bit, count, mask}
 use Rattle.cells.specs.ChipLaws.{count_ext}
 use Rattle.passes.specs.Passes.{is_candidate, is_flagged, is_unsound, holds_catch_word}
-use Rattle.passes.specs.PassLaws.{candidate_is, flagged_mask_lem, flagged_count}
+use Rattle.passes.proofs.PassLaws.{candidate_is, flagged_mask_lem, flagged_count}
 use Rattle.line.specs.Blame.{Evidence}
 use Rattle.line.specs.Visit.{outcome_of, word_of, bytes_after, own_passes}
-use Rattle.line.specs.ClosedFormLaws.{outcome_is, word_is, bytes_is}
+use Rattle.line.proofs.ClosedFormLaws.{outcome_is, word_is, bytes_is}
 
 -- ---- two lists of catch-words
 

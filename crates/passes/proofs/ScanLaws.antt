@@ -17,7 +17,7 @@ use Rattle.code.specs.TestLaws.{and_first, and_second}
 use Rattle.cells.specs.ChipLaws.{xor_all_ext, count_none, count_next, count_zero, mask_zero, mask_count}
 use Rattle.words.specs.Bytes.{Bytes}
 use Rattle.passes.specs.Passes.{catch_word, pass_one, is_candidate, is_unsound, holds_catch_word}
-use Rattle.passes.specs.PassLaws.{sent_held, candidate_is}
+use Rattle.passes.proofs.PassLaws.{sent_held, candidate_is}
 use Rattle.cells.specs.Checks.{every_other}
 use Rattle.cells.specs.CheckLaws.{other_equal, checks_xor}
 use Rattle.passes.specs.Scan.{is_clean, equals_catch_word}

@@ -13,7 +13,7 @@ use Rattle.cells.specs.Chips.{xor_all, mask}
 use Rattle.cells.specs.ChipLaws.{joined_ext}
 use Rattle.cells.specs.Cells.{chip_at, codeword}
 use Rattle.passes.specs.Passes.{pass_one, is_flagged, is_collision, flagged_chips, xor_others, pass_three, is_flagged_beyond, beyond_chips}
-use Rattle.passes.specs.PassLaws.{others_cancel}
+use Rattle.passes.proofs.PassLaws.{others_cancel}
 use Rattle.line.specs.Blame.{Evidence}
 use Rattle.line.specs.Visit.{must_cancel, third_finding, third_word, finding_by, own_word_by, finding_of, own_word, outcome_by, word_by, outcome_of, word_of, if_answered, with_words, written_back, bytes_after, own_passes, row_passes, report_of}
 use Rattle.line.specs.FormerVisit.{report_with, bytes_with, AsWith, former_outcome_by, former_word_by, former_outcome, former_word, AsBefore, third_before_rows, outcome_before_rows_by, outcome_before_rows, AsBeforeRows, NotDiagnosed}

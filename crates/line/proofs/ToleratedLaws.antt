@@ -22,12 +22,12 @@ use Rattle.cells.specs.ChipLaws.{joined_ext, xor_all_ext, xor_all_xor, xor_all_z
 use Rattle.cells.specs.Cells.{cell_at, chip_at, codeword, line_word, stored, line_of}
 use Rattle.cells.specs.CellLaws.{length_codeword, line_stored}
 use Rattle.passes.specs.Passes.{is_flagged, xor_others, chip_status, beyond_chips, is_unsound, held_word, mended_at, beyond_at}
-use Rattle.passes.specs.PassLaws.{flagged_is, others_ext, others_cancel, others_sound, beyond_chips_count}
+use Rattle.passes.proofs.PassLaws.{flagged_is, others_ext, others_cancel, others_sound, beyond_chips_count}
 use Rattle.line.specs.Blame.{Evidence, is_blamed, blamed_chips}
 use Rattle.line.specs.BlameLaws.{blamed_one}
 use Rattle.line.specs.Visit.{must_cancel, outcome_of, word_of, if_answered, written_back, bytes_after}
 use Rattle.line.specs.Damage.{damaged, Parity, Tolerated, damaged_patterns, Answerable, few_damaged, all_undone, some_beyond, LeftUndecided}
-use Rattle.line.specs.ClosedFormLaws.{third_finding_with, third_word_with, finding_with, own_word_with, blamed_for, outcome_with, word_with, written_with, finding_for, outcome_for, word_for, bytes_for, blamed_is, blamed_count, outcome_is, word_is, bytes_is}
+use Rattle.line.proofs.ClosedFormLaws.{third_finding_with, third_word_with, finding_with, own_word_with, blamed_for, outcome_with, word_with, written_with, finding_for, outcome_for, word_for, bytes_for, blamed_is, blamed_count, outcome_is, word_is, bytes_is}
 use Rattle.line.specs.DamageLaws.{chip_damaged, cell_damaged, line_parity}
 use Rattle.line.specs.declared.Outcome.{Outcome}
 use Rattle.line.specs.declared.Outcome.TheVariants.{Answered, Uncorrectable}

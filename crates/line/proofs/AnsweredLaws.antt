@@ -15,11 +15,11 @@ use Rattle.words.specs.ByteLaws.{number_bytes_of}
 use Rattle.cells.specs.CellLaws.{length_joined, chip_joined, length_chip, cell_fits, word_chip, held_word_lem, length_codeword, eight_codeword}
 use Rattle.cells.specs.ChipLaws.{xor_all_lt}
 use Rattle.passes.specs.Passes.{is_flagged, xor_others, is_unsound, held_word, mended_at, beyond_at}
-use Rattle.passes.specs.PassLaws.{sound_mended, sound_mends}
+use Rattle.passes.proofs.PassLaws.{sound_mended, sound_mends}
 use Rattle.line.specs.Blame.{Evidence}
 use Rattle.line.specs.Visit.{outcome_of, word_of, if_answered, with_words, written_back, bytes_after}
 use Rattle.line.specs.OutcomeLaws.{either_answered}
-use Rattle.line.specs.ClosedFormLaws.{third_word_with, own_word_with, blamed_for, word_with, written_with, finding_for, word_for, bytes_for, outcome_is, word_is, bytes_is}
+use Rattle.line.proofs.ClosedFormLaws.{third_word_with, own_word_with, blamed_for, word_with, written_with, finding_for, word_for, bytes_for, outcome_is, word_is, bytes_is}
 use Rattle.line.specs.declared.Outcome.{Outcome}
 use Rattle.line.specs.declared.Outcome.TheVariants.{Answered}
 use Rattle.line.specs.declared.Finding.{Finding}

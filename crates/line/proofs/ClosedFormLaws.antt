@@ -10,7 +10,7 @@ use Rattle.cells.specs.Chips.{joined, xor_all, count}
 use Rattle.cells.specs.Cells.{chip_at, codeword}
 use Rattle.cells.specs.ChipLaws.{joined_ext, xor_all_ext, count_ext, count_none}
 use Rattle.passes.specs.Passes.{sends, sent_at, pass_one, is_flagged, xor_others, pass_three, is_unsound, held_word, mended_at, beyond_at}
-use Rattle.passes.specs.PassLaws.{sent_word, flagged_is, flagged_count, flagged_beyond_is, beyond_chips_count, others_ext, others_sound}
+use Rattle.passes.proofs.PassLaws.{sent_word, flagged_is, flagged_count, flagged_beyond_is, beyond_chips_count, others_ext, others_sound}
 use Rattle.line.specs.Blame.{Evidence, reaches, other_reaches, is_blamed, blamed_chips}
 use Rattle.line.specs.Visit.{must_cancel, third_finding, third_word, finding_by, own_word_by, finding_of, own_word, outcome_by, word_by, outcome_of, word_of, if_answered, with_words, written_back, bytes_after}
 use Rattle.line.specs.declared.Outcome.{Outcome}

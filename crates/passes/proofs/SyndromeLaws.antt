@@ -17,7 +17,7 @@ use Rattle.cells.specs.Checks.{every_other, in_checks}
 use Rattle.cells.specs.CheckLaws.{checks_at}
 use Rattle.words.specs.Bytes.{Bytes}
 use Rattle.passes.specs.Passes.{is_unsound}
-use Rattle.passes.specs.ScanLaws.{check_fits}
+use Rattle.passes.proofs.ScanLaws.{check_fits}
 use Rattle.passes.specs.declared.syndromes.Syndromes.{Syndromes}
 use Rattle.passes.specs.Syndromes.{chip_syndrome, syndromes_of, syndrome_in, are_zero}
 
