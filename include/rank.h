@@ -31,7 +31,7 @@
  *
  * Catch-words may be taken from serial numbers: proved over every list of calls and with any damage, which ones a
  * record starts with changes how many passes are made, the collision masks and the catch-words themselves, and no
- * refusal, line, count, repair or stored byte (catch-words-dont-matter).
+ * refusal, line, count, repair or stored byte (catch_words_dont_matter).
  *
  * What a caller owes
  *
@@ -50,13 +50,13 @@
  *
  * What to know of the archive
  *
- * - x86-64 Linux alone: the toolchain that proves and compiles the library has no other target.
+ * - x86-64 Linux alone: it is built and tested for no other target.
  * - It needs memcpy and memset, allocates nothing, and has no writable data.
  * - It uses the vector registers xmm0 to xmm15 by SSE2 instructions, and no wider ones; memcpy and memset may. An
  *   interrupt handler that does not save them can't call it. As the ABI allows, calls use 128 bytes below the stack
  *   pointer (the red zone).
  * - No call needs more than RANK_STACK_BYTES of stack, its arguments and its result included. The most that is measured
- *   is about 1,060 bytes, for a patrol that repairs a line.
+ *   is about 1,000 bytes, for a patrol that repairs a line.
  * - A read that diagnoses the row takes the time of a patrol over its lines, and so does each such line of a patrol.
  * - Records and results have padding bytes of no fixed value: compare records field by field and not by memcmp.
  *

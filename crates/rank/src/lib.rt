@@ -1,6 +1,6 @@
-// The six calls that firmware links (document 01, "The calls"): each is tested for its refusals, and its work is done by a crate below. No
-// call has a `requires`: each says for every input what it returns and what every byte lent to be written is afterwards. What is lent by `&`
-// can't be written.
+// The six calls (document 01, "The calls"), which firmware links by crate `rank_c`: each is tested for its refusals, and its work is done by
+// a crate below. No call has a `requires`: each says for every input what it returns and what every byte lent to be written is afterwards.
+// What is lent by `&` can't be written.
 #![tactic(auto)]
 
 ghost use Rattle.std.specs.Prelude.{◌≡◌};
@@ -33,8 +33,7 @@ pub struct PatrolResult {
 }
 
 // Boot: clears the memory and gives the record of as many lines as it holds, with nine catch-words in both copies.
-#[unsafe(no_mangle)]
-pub extern "C" fn rank_boot(memory: &mut [u8], catch_words: &[u64]) -> Called
+pub fn rank_boot(memory: &mut [u8], catch_words: &[u64]) -> Called
     ensures result { result ≡ (boot_of memory.old catch_words.now).result }
     ensures memory { memory.new ≡ (boot_of memory.old catch_words.now).memory }
 {
@@ -53,8 +52,7 @@ pub extern "C" fn rank_boot(memory: &mut [u8], catch_words: &[u64]) -> Called
 }
 
 // Write: lays the nine codewords of a line's 64 bytes.
-#[unsafe(no_mangle)]
-pub extern "C" fn rank_write(rank: Rank, memory: &mut [u8], line: u32, bytes: &[u8]) -> Called
+pub fn rank_write(rank: Rank, memory: &mut [u8], line: u32, bytes: &[u8]) -> Called
     ensures result { result ≡ (write_of rank memory.old line bytes.now).result }
     ensures memory { memory.new ≡ (write_of rank memory.old line bytes.now).memory }
 {
@@ -69,8 +67,7 @@ pub extern "C" fn rank_write(rank: Rank, memory: &mut [u8], line: u32, bytes: &[
 }
 
 // Read: a visit, for a task, that puts the line in a 64-byte buffer.
-#[unsafe(no_mangle)]
-pub extern "C" fn rank_read(
+pub fn rank_read(
     rank: Rank,
     memory: &mut [u8],
     task: u32,
@@ -107,8 +104,7 @@ pub extern "C" fn rank_read(
 }
 
 // Patrol (patrol scrub): visits min(budget, N − first) lines from a first line upwards, for one task. A refused line doesn't stop it.
-#[unsafe(no_mangle)]
-pub extern "C" fn rank_patrol(
+pub fn rank_patrol(
     rank: Rank,
     memory: &mut [u8],
     task: u32,
@@ -142,8 +138,7 @@ pub extern "C" fn rank_patrol(
 }
 
 // Renew: gives one chip a catch-word of any value, in both copies.
-#[unsafe(no_mangle)]
-pub extern "C" fn rank_renew(rank: Rank, chip: u32, catch_word: u64) -> Called
+pub fn rank_renew(rank: Rank, chip: u32, catch_word: u64) -> Called
     ensures { result ≡ renew_of rank chip catch_word }
 {
     let refusal = refusals::of_renew(rank, chip);
@@ -157,14 +152,7 @@ pub extern "C" fn rank_renew(rank: Rank, chip: u32, catch_word: u64) -> Called
 }
 
 // Fault: xors nine bytes, a pattern, into one chip of one line.
-#[unsafe(no_mangle)]
-pub extern "C" fn rank_fault(
-    rank: Rank,
-    memory: &mut [u8],
-    line: u32,
-    chip: u32,
-    pattern: &[u8],
-) -> Called
+pub fn rank_fault(rank: Rank, memory: &mut [u8], line: u32, chip: u32, pattern: &[u8]) -> Called
     ensures result { result ≡ (fault_of rank memory.old line chip pattern.now).result }
     ensures memory { memory.new ≡ (fault_of rank memory.old line chip pattern.now).memory }
 {
@@ -177,8 +165,7 @@ pub extern "C" fn rank_fault(
 }
 
 // The version of this interface, `RANK_VERSION` in include/rank.h: a caller compares the two, since an archive of another version can link.
-#[unsafe(no_mangle)]
-pub extern "C" fn rank_version() -> u32
+pub fn rank_version() -> u32
     ensures { result ≡ interface_version }
 {
     INTERFACE_VERSION

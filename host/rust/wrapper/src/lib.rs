@@ -34,9 +34,9 @@
 //!
 //! # How it links
 //!
-//! `rt staticlib rank` proves the library and writes `target/staticlib/librank.a`, for x86-64 Linux, which the build script links. The
-//! environment variable `RANK_LIB_DIR` names another folder that has the archive, by an absolute path. The archive needs `memcpy` and
-//! `memset` and nothing else, and this crate needs no `std`.
+//! The repository's `host/library` proves the library and writes `target/staticlib/librank.a`, for x86-64 Linux, which the build script
+//! links. The environment variable `RANK_LIB_DIR` names another folder that has the archive, by an absolute path. The archive needs
+//! `memcpy` and `memset` and nothing else, and this crate needs no `std`.
 #![no_std]
 #![deny(missing_docs)]
 
