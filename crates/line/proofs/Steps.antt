@@ -24,7 +24,6 @@ use Rattle.line.specs.Found.{may_answer, ChecksUnlessRefused}
 use Rattle.passes.proofs.PassLaws.{sent_catch_word, third_sent, flagged_is, flagged_beyond_is}
 use Rattle.line.proofs.Places.{placed_set, checked_set}
 use Rattle.cells.proofs.Loops.{pending_all, pending_lowest, member_is}
-use Rattle.line.specs.declared.Examined.{Examined}
 use Rattle.line.specs.declared.Outcome.TheVariants.{Answered, Unlocated, Uncorrectable}
 use Rattle.line.specs.declared.Finding.{Finding}
 use Rattle.line.specs.declared.Finding.TheVariants.{Decided, Undecided}

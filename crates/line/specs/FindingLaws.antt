@@ -1,15 +1,15 @@
 -- What the line's own bytes tell: they leave the outcome undecided in one case alone, after three passes, and then the words are those of pass
 -- three; two or more flagged chips beyond mending are refused with 21 at once.
 -- Assumes nothing.
-use Rattle.std.specs.Prelude.{◌≡◌, ◌≢◌, Bool, List, ltb}
+use Rattle.std.specs.Prelude.{◌≡◌, ◌≢◌, Bool, List}
 use Rattle.std.proofs.Math.Path.{refl, ap}
 use Rattle.std.proofs.Common.{sym, ◌∙◌, true≢false, arith}
 use Rattle.std.proofs.Math.Bool.{true, false, cond}
-use Prim.Native.Nat.{ℕ, zero, suc, ◌+◌, ◌<◌, ◌≤◌}
+use Prim.Native.Nat.{ℕ, zero, suc, ◌<◌, ◌≤◌}
 use Rattle.std.proofs.Math.Dec.{eqb}
 use borrow.Author.Tests.{eqb-false, ne_eqb, lt-ltb}
 use Rattle.code.specs.TestLaws.{and_first}
-use Rattle.cells.specs.Chips.{xor_all, bit, count}
+use Rattle.cells.specs.Chips.{xor_all, count}
 use Rattle.cells.specs.ChipLaws.{count_le}
 use Rattle.passes.specs.Passes.{pass_one, is_candidate, sent_complement, is_flagged, flagged_chips, pass_three, chip_status, is_flagged_beyond, beyond_chips}
 use Rattle.code.specs.Code.{is_beyond}

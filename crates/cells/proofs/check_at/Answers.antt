@@ -1,7 +1,6 @@
 -- `cells::check_at` meets its contract. Assumes nothing.
 use mathlib.Core.Path.{refl}
 use Rattle.cells.specs.Cells.{check_at}
-use borrow.Author.Rules.{rules}
 use Rattle.cells.proofs.check_at.Goals as goal
 
 pub returns : goal.returns

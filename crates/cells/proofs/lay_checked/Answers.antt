@@ -8,7 +8,6 @@ use Rattle.code.specs.Code.{check_of}
 use Rattle.cells.specs.Cells.{with_chip, codeword}
 use Rattle.words.specs.Bytes.{bytes_of}
 use Rattle.words.specs.ByteLaws.{length_bytes_of, sets_append}
-use borrow.Author.Rules.{rules}
 use Rattle.cells.proofs.lay_checked.Goals as goal
 
 pub returns : goal.returns

@@ -1,7 +1,7 @@
 -- `cells::lay_line` meets its contract. Assumes nothing.
 use mathlib.Core.Path.{◌≡◌, refl, sym, ap, ap₂, ◌∙◌}
 use mathlib.Core.List.{List}
-use Prim.Native.Nat.{ℕ, ◌*◌, ◌-◌}
+use Prim.Native.Nat.{ℕ, ◌*◌}
 use native.Mathlib.Omega.{arith}
 use lib.Bits.{bit_xor}
 use lib.Dec.{lit<}
@@ -14,8 +14,7 @@ use Rattle.cells.specs.Checks.{word_every, in_checks, xor_lanes}
 use Rattle.cells.specs.CheckLaws.{checks_at, across_xor, checks_xor}
 use Rattle.cells.specs.Cells.{codeword, with_chip, eight_at, line_word, stored}
 use Rattle.cells.specs.CellLaws.{length_codeword, line_word_eight}
-use Rattle.cells.proofs.Loops.{Blocks, blocks_none, blocks_store, blocks_all, Upto, xor_more, upto_all}
-use borrow.Author.Rules.{rules}
+use Rattle.cells.proofs.Loops.{blocks_none, blocks_store, blocks_all, xor_more, upto_all}
 use Rattle.cells.proofs.lay_line.Goals as goal
 use Rattle.cells.proofs.lay_line.Invariants.{chip}
 

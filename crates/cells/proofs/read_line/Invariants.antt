@@ -1,14 +1,7 @@
-use mathlib.Core.Path.{◌≡◌, ap, ◌∙◌}
 use mathlib.Core.List.{List}
-use Prim.Native.Nat.{ℕ, ◌*◌, ◌-◌, ◌<◌}
-use native.Mathlib.Omega.{arith}
-use lib.ListN.{length}
-use lib.Seq.{sets}
-use Rattle.words.specs.Bytes.{bytes_from, bytes_of}
-use Rattle.cells.specs.Cells.{word_at, line_of}
-use Rattle.words.specs.ByteLaws.{length_bytes_from, bytes_bytes_from, bytes_of_number}
-use Rattle.cells.proofs.Loops.{Blocks, blocks_none, blocks_store, blocks_all}
-use borrow.Author.Rules.{rules}
+use Prim.Native.Nat.{ℕ, ◌*◌, ◌-◌}
+use Rattle.words.specs.Bytes.{bytes_from}
+use Rattle.cells.proofs.Loops.{Blocks}
 use Rattle.cells.proofs.read_line.Given as goal
 
 -- chip k's word, as bytes

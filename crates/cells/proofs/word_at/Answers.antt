@@ -1,6 +1,5 @@
 -- `cells::word_at` meets its contract. Assumes nothing.
 use Rattle.cells.specs.Cells.{word_at}
-use borrow.Author.Rules.{rules}
 use Rattle.cells.proofs.word_at.Goals as goal
 
 pub returns : goal.returns

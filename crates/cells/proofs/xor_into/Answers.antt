@@ -1,15 +1,14 @@
 -- `cells::xor_into` meets its contract. Assumes nothing.
 use mathlib.Core.Path.{◌≡◌, refl, ap, ◌∙◌}
 use mathlib.Core.List.{List}
-use Prim.Native.Nat.{ℕ, ◌+◌, ◌*◌, ◌-◌, ◌≤◌, zero-le}
+use Prim.Native.Nat.{ℕ, ◌+◌, ◌*◌, zero-le}
 use native.Mathlib.Omega.{arith}
 use lib.Bits.{bit_xor}
-use lib.ListN.{length, get_or, set, length-set}
+use lib.ListN.{get_or, set, length-set}
 use lib.Seq.{sets, take_all}
 use Rattle.cells.specs.Cells.{chip_at, with_chip}
 use Rattle.words.specs.Bytes.{xor_bytes, bytes_from}
 use Rattle.cells.proofs.Loops.{xored, xored_more}
-use borrow.Author.Rules.{rules}
 use Rattle.cells.proofs.xor_into.Goals as goal
 
 pub loop-i-init : goal.loop-i-init

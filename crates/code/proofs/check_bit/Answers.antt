@@ -4,7 +4,6 @@ use mathlib.Core.Path.{◌≡◌, sym, ap, ◌∙◌}
 use Prim.Native.Nat.{ℕ, ◌*◌, ◌%◌, ◌^◌, ◌<◌}
 use native.Mathlib.Nat.{mod-eq_of_lt, one-mul}
 use lib.Pow.{pow-lt}
-use borrow.Author.Rules.{rules}
 use Rattle.code.specs.Code.{bit_at}
 use Rattle.code.proofs.MendLaws.{check_bit_own, check_bit_none}
 use Rattle.code.proofs.check_bit.Goals as goal

@@ -1,6 +1,5 @@
 -- `code::check_byte` meets its contract: each fold leaves the remainder as it was, and the last fits a byte.
 -- Assumes nothing.
-use borrow.Author.Rules.{rules}
 use Rattle.code.proofs.Folds.{shortened, last_small, last_check}
 use Rattle.code.proofs.check_byte.Goals as goal
 

@@ -3,7 +3,6 @@
 use mathlib.Core.Path.{sym, ap, ◌∙◌}
 use Prim.Native.Nat.{ℕ, ◌/◌, ◌%◌}
 use lib.Bits.{bit_xor}
-use borrow.Author.Rules.{rules}
 use borrow.Author.Tests.{ne_eqb}
 use Rattle.code.specs.Code.{is_codeword, position_of, bit_at, status_at}
 use Rattle.code.proofs.CodeLaws.{cell_word, cell_check, syndrome_codeword}

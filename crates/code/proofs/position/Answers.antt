@@ -2,12 +2,11 @@
 -- the steps of the eight that are left.
 -- Assumes nothing.
 use mathlib.Core.Path.{refl, ◌∙◌}
-use Prim.Native.Nat.{◌-◌, ◌≤◌, ◌<◌}
+use Prim.Native.Nat.{◌≤◌, ◌<◌}
 use native.Mathlib.Omega.{arith}
 use lib.Dec.{lit≤}
-use borrow.Author.Rules.{rules}
 use Rattle.code.specs.Code.{times_x, remainder_in, remainder, syndrome_of, syndrome_at}
-use Rattle.code.proofs.Walk.{side_by_side, power_after, powers_after, found_after, place_le, Walked, walk_fits, walk_next, walk_found, walk_last, walk_none}
+use Rattle.code.proofs.Walk.{side_by_side, power_after, powers_after, found_after, place_le, walk_fits, walk_next, walk_found, walk_last, walk_none}
 use Rattle.code.proofs.position.Goals as goal
 
 pub loop-i-init : goal.loop-i-init

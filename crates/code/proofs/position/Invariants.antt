@@ -1,10 +1,5 @@
-use mathlib.Core.Path.{refl, ◌∙◌}
-use Prim.Native.Nat.{◌-◌, ◌≤◌, ◌<◌}
-use native.Mathlib.Omega.{arith}
-use lib.Dec.{lit≤}
-use borrow.Author.Rules.{rules}
-use Rattle.code.specs.Code.{times_x, remainder_in, remainder, syndrome_of, syndrome_at}
-use Rattle.code.proofs.Walk.{side_by_side, power_after, powers_after, found_after, place_le, Walked, walk_fits, walk_next, walk_found, walk_last, walk_none}
+use Prim.Native.Nat.{◌-◌}
+use Rattle.code.proofs.Walk.{Walked}
 use Rattle.code.proofs.position.Given as goal
 
 abbrev pub invariant-loop-i : goal.invariant-loop-i

@@ -2,7 +2,6 @@
 -- Assumes nothing.
 use native.Mathlib.Omega.{arith}
 use lib.Count.{trailing_le}
-use borrow.Author.Rules.{rules}
 use Rattle.code.proofs.position_found.Goals as goal
 
 pub overflow_mul-result : goal.overflow_mul-result

@@ -3,7 +3,6 @@
 use mathlib.Core.Path.{sym, ap, ◌∙◌}
 use Prim.Native.Nat.{ℕ}
 use lib.Bits.{bit_xor}
-use borrow.Author.Rules.{rules}
 use Rattle.code.proofs.CodeLaws.{syndrome_of_lem}
 use Rattle.code.proofs.syndrome.Goals as goal
 

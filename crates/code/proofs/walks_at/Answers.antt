@@ -3,7 +3,6 @@
 use mathlib.Core.Path.{refl}
 use Prim.Native.Nat.{◌*◌}
 use lib.Bits.{bit_xor}
-use borrow.Author.Rules.{rules}
 use Rattle.code.proofs.Side.{same}
 use Rattle.code.proofs.Walk.{masked_plus, eight_marked}
 use Rattle.code.proofs.walks_at.Goals as goal

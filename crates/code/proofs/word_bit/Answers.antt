@@ -5,7 +5,6 @@ use Prim.Native.Nat.{ℕ, ◌-◌, ◌*◌, ◌/◌, ◌%◌, ◌^◌, ◌≤◌
 use native.Mathlib.Nat.{mod-eq_of_lt, one-mul}
 use native.Mathlib.Omega.{arith}
 use lib.Pow.{pow-lt}
-use borrow.Author.Rules.{rules}
 use Rattle.code.specs.Code.{bit_at}
 use Rattle.code.proofs.MendLaws.{bit_in_check, bit_in_word, bit_in_none}
 use Rattle.code.proofs.word_bit.Goals as goal

@@ -1,7 +1,6 @@
 -- `lanes::check_bytes` meets its contract. Assumes nothing.
 use mathlib.Core.Path.{ap₂, ◌∙◌}
 use Prim.Native.Nat.{ℕ}
-use borrow.Author.Rules.{rules}
 use Rattle.lanes.specs.Lanes.{fold_quarters, last_folds, all_folds}
 use Rattle.lanes.proofs.LaneLaws.{all_checks}
 use Rattle.lanes.proofs.check_bytes.Goals as goal

@@ -1,6 +1,5 @@
 -- `lanes::fold_quarters` meets its contract. Assumes nothing.
 use mathlib.Core.Path.{ap}
-use borrow.Author.Rules.{rules}
 use Rattle.lanes.specs.Lanes.{upper_lanes, with_higher, fold_quarters}
 use Rattle.lanes.proofs.fold_quarters.Goals as goal
 

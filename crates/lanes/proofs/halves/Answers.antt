@@ -1,6 +1,5 @@
 -- `lanes::halves` meets its contract. Assumes nothing.
 use mathlib.Core.Path.{ap₂, ◌∙◌}
-use borrow.Author.Rules.{rules}
 use Rattle.lanes.specs.Lanes.{fold_halves}
 use Rattle.lanes.proofs.halves.Goals as goal
 

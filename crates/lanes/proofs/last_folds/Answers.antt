@@ -1,6 +1,5 @@
 -- `lanes::last_folds` meets its contract. Assumes nothing.
 use mathlib.Core.Path.{ap, ◌∙◌}
-use borrow.Author.Rules.{rules}
 use Rattle.lanes.specs.Lanes.{fold_lanes, times_byte, last_folds}
 use Rattle.lanes.proofs.last_folds.Goals as goal
 

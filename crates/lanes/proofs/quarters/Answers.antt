@@ -1,6 +1,5 @@
 -- `lanes::quarters` meets its contract. Assumes nothing.
 use mathlib.Core.Path.{ap, ◌∙◌}
-use borrow.Author.Rules.{rules}
 use Rattle.lanes.specs.Lanes.{last_folds}
 use Rattle.lanes.proofs.quarters.Goals as goal
 

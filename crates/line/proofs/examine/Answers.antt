@@ -10,7 +10,6 @@ use Rattle.passes.specs.declared.syndromes.Syndromes.{Syndromes}
 use Rattle.passes.specs.Syndromes.{syndromes_of, syndrome_in}
 use Rattle.passes.proofs.SyndromeLaws.{unsound_mask}
 use Rattle.line.proofs.Steps.{passes_made, examined_is}
-use borrow.Author.Rules.{rules}
 use Rattle.line.proofs.examine.Goals as goal
 
 -- the chips that hold no codeword, out of the syndromes

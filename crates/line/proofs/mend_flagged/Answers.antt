@@ -3,7 +3,6 @@ use mathlib.Core.Path.{refl}
 use native.Mathlib.Omega.{arith}
 use Rattle.passes.specs.Passes.{is_flagged_beyond}
 use Rattle.line.proofs.Steps.{mended_found, rebuilt_found, beyond_found, lowest_some, lowest_one}
-use borrow.Author.Rules.{rules}
 use Rattle.line.proofs.mend_flagged.Goals as goal
 
 pub pass-pass_three-requires : goal.pass-pass_three-requires

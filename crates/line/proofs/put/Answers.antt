@@ -1,7 +1,6 @@
 -- `line::put` meets its contract. Assumes nothing.
 use mathlib.Core.Path.{refl, ap}
 use lib.ListN.{set}
-use borrow.Author.Rules.{rules}
 use Rattle.line.proofs.put.Goals as goal
 
 pub returns : goal.returns

@@ -1,6 +1,5 @@
 -- `line::refusal` meets its contract. Assumes nothing.
 use Rattle.line.specs.Visit.{refusal_of}
-use borrow.Author.Rules.{rules}
 use Rattle.line.proofs.refusal.Goals as goal
 
 pub returns-in-Answered : goal.returns-in-Answered

@@ -2,7 +2,6 @@
 use native.Mathlib.Omega.{arith}
 use Rattle.passes.specs.Passes.{catch_word, is_flagged}
 use Rattle.line.proofs.Steps.{none_found, one_found, lowest_some, lowest_one, at_least_two}
-use borrow.Author.Rules.{rules}
 use Rattle.line.proofs.resolve.Goals as goal
 
 pub returns-then-flags-eq0 : goal.returns-then-flags-eq0

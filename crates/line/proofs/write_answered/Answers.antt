@@ -9,8 +9,6 @@ use Rattle.cells.specs.Cells.{chip_at, codeword}
 use Rattle.line.specs.Visit.{if_answered}
 use Rattle.line.specs.OutcomeLaws.{not_answered}
 use Rattle.line.specs.declared.Outcome.{Outcome}
-use Rattle.line.proofs.Tags.{refused_tag}
-use borrow.Author.Rules.{rules}
 use Rattle.line.proofs.write_answered.Goals as goal
 
 -- the line with the flagged chips written back

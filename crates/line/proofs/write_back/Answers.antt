@@ -11,8 +11,7 @@ use Rattle.cells.specs.Chips.{joined, in_mask}
 use Rattle.cells.specs.Cells.{chip_at, codeword, with_chip}
 use Rattle.cells.specs.CellLaws.{length_chip, length_codeword, length_joined, length_with_chip, chip_laid, chip_other, chip_joined, same_chips}
 use Rattle.cells.specs.MaskLaws.{TakenOff, no_member}
-use Rattle.cells.proofs.Loops.{Pending, pending_lowest, pending_below, pending_next, rest_own, rest_other}
-use borrow.Author.Rules.{rules}
+use Rattle.cells.proofs.Loops.{pending_lowest, pending_below, pending_next, rest_own, rest_other}
 use Rattle.line.proofs.write_back.Goals as goal
 use Rattle.line.proofs.write_back.Invariants.{chip, Laid}
 

@@ -1,17 +1,11 @@
-use mathlib.Core.Path.{◌≡◌, refl, sym, ap, ap₂, ◌∙◌}
-use mathlib.Core.Bool.{Bool, true, false, cond}
+use mathlib.Core.Path.{◌≡◌}
+use mathlib.Core.Bool.{cond}
 use mathlib.Core.List.{List}
 use Prim.Native.Nat.{ℕ, ◌<◌}
-use native.Mathlib.Omega.{arith}
-use lib.Dec.{eqb}
 use lib.ListN.{length, get_or}
-use borrow.Author.Tests.{eqb-true, eqb-false}
-use Rattle.cells.specs.Chips.{joined, in_mask}
-use Rattle.cells.specs.Cells.{chip_at, codeword, with_chip}
-use Rattle.cells.specs.CellLaws.{length_chip, length_codeword, length_joined, length_with_chip, chip_laid, chip_other, chip_joined, same_chips}
-use Rattle.cells.specs.MaskLaws.{TakenOff, no_member}
-use Rattle.cells.proofs.Loops.{Pending, pending_lowest, pending_below, pending_next, rest_own, rest_other}
-use borrow.Author.Rules.{rules}
+use Rattle.cells.specs.Chips.{in_mask}
+use Rattle.cells.specs.Cells.{chip_at, codeword}
+use Rattle.cells.proofs.Loops.{Pending}
 use Rattle.line.proofs.write_back.Given as goal
 
 -- chip k's nine bytes afterwards

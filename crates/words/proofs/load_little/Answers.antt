@@ -4,7 +4,6 @@ use mathlib.Core.List.{List, reverse}
 use Prim.Native.Nat.{ℕ}
 use Rattle.words.specs.Bytes.{number_of}
 use Rattle.words.proofs.Words.{eight_bytes}
-use borrow.Author.Rules.{rules}
 use Rattle.words.proofs.load_little.Goals as goal
 
 pub returns : goal.returns

@@ -4,7 +4,6 @@ use Prim.Native.Nat.{ℕ}
 use mathlib.Core.Path.{ap, ◌∙◌}
 use Rattle.words.specs.Bytes.{number_of, bytes_of, bytes_from}
 use Rattle.words.specs.ByteLaws.{swap_swap, bytes_bytes_from, length_bytes_from}
-use borrow.Author.Rules.{rules}
 use Rattle.words.proofs.load_word.Goals as goal
 
 pub returns : goal.returns

@@ -2,7 +2,6 @@
 use native.Mathlib.Omega.{arith}
 use lib.ListN.{length-set}
 use Rattle.words.proofs.Words.{stored_low_first}
-use borrow.Author.Rules.{rules}
 use Rattle.words.proofs.store_little.Goals as goal
 
 pub returns : goal.returns

@@ -5,7 +5,6 @@ use lib.Seq.{sets}
 use mathlib.Core.Path.{ap, ◌∙◌}
 use Rattle.words.specs.Bytes.{bytes_of}
 use Rattle.words.specs.ByteLaws.{swap_swap, bytes_bytes_of, length_bytes_of}
-use borrow.Author.Rules.{rules}
 use Rattle.words.proofs.store_word.Goals as goal
 
 pub returns : goal.returns

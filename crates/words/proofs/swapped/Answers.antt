@@ -2,7 +2,6 @@
 use mathlib.Core.Path.{ap, ◌∙◌}
 use Rattle.words.specs.Bytes.{number_of}
 use Rattle.words.proofs.Words.{low_first}
-use borrow.Author.Rules.{rules}
 use Rattle.words.proofs.swapped.Goals as goal
 
 pub returns : goal.returns

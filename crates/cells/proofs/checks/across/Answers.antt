@@ -1,5 +1,4 @@
 -- `cells::checks::across` meets its contract. Assumes nothing.
-use borrow.Author.Rules.{rules}
 use Rattle.cells.specs.Checks.{xor_lanes}
 use Rattle.cells.proofs.checks.across.Goals as goal
 

@@ -9,7 +9,6 @@ use Rattle.lanes.specs.Lanes.{lanes, swapped}
 use Rattle.words.specs.Bytes.{number_of, bytes_from}
 use Rattle.cells.specs.Checks.{every_other, word_every}
 use Rattle.cells.specs.CheckLaws.{swapped_load}
-use borrow.Author.Rules.{rules}
 use Rattle.cells.proofs.checks.of_eight.Goals as goal
 
 pub returns : goal.returns

@@ -1,5 +1,4 @@
 -- `cells::checks::of_word` meets its contract. Assumes nothing.
-use borrow.Author.Rules.{rules}
 use borrow.Author.Tests.{eq-eqb, ne_eqb}
 use Rattle.cells.specs.Checks.{in_checks}
 use Rattle.cells.proofs.checks.of_word.Goals as goal

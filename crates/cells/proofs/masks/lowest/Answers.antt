@@ -1,7 +1,6 @@
 -- `cells::masks::lowest` meets its contract. Assumes nothing.
 use native.Mathlib.Omega.{arith}
 use lib.Count.{trailing_le}
-use borrow.Author.Rules.{rules}
 use Rattle.cells.proofs.masks.lowest.Goals as goal
 
 pub overflow_cast-result : goal.overflow_cast-result

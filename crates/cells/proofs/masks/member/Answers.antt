@@ -4,7 +4,6 @@ use Prim.Native.Nat.{ℕ, ◌/◌, ◌^◌}
 use lib.Bits.{and_mask}
 use lib.Dec.{eqb}
 use Rattle.cells.specs.Chips.{in_mask}
-use borrow.Author.Rules.{rules}
 use Rattle.cells.proofs.masks.member.Goals as goal
 
 pub returns : goal.returns

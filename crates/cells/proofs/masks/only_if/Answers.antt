@@ -7,7 +7,6 @@ use native.Mathlib.Omega.{arith}
 use lib.Dec.{lit<}
 use lib.Pow.{shl_exact}
 use Rattle.cells.specs.Chips.{bit}
-use borrow.Author.Rules.{rules}
 use Rattle.cells.proofs.masks.only_if.Goals as goal
 
 pub returns-then-test : goal.returns-then-test

@@ -1,6 +1,5 @@
 -- `cells::masks::without_lowest` meets its contract. Assumes nothing.
 use Rattle.cells.specs.MaskLaws.{without_lowest}
-use borrow.Author.Rules.{rules}
 use Rattle.cells.proofs.masks.without_lowest.Goals as goal
 
 pub returns : goal.returns

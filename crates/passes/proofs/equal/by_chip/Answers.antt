@@ -1,11 +1,11 @@
 -- `passes::equal::by_chip` meets its contract. Assumes nothing.
 use mathlib.Core.Path.{refl, ap, ◌∙◌}
-use Prim.Native.Nat.{ℕ, ◌*◌, ◌-◌, ◌^◌}
+use Prim.Native.Nat.{ℕ, ◌*◌, ◌^◌}
 use lib.Dec.{eqb}
 use Rattle.cells.specs.Chips.{bit, mask}
 use Rattle.passes.specs.Passes.{catch_word}
 use Rattle.passes.specs.Scan.{equals_catch_word}
-use Rattle.cells.proofs.Loops.{Upto, none_yet, mask_more, upto_all}
+use Rattle.cells.proofs.Loops.{none_yet, mask_more, upto_all}
 use borrow.Author.Rules.{rules}
 use Rattle.passes.proofs.equal.by_chip.Goals as goal
 

@@ -1,11 +1,7 @@
-use mathlib.Core.Path.{refl, ap, ◌∙◌}
-use Prim.Native.Nat.{ℕ, ◌*◌, ◌-◌, ◌^◌}
-use lib.Dec.{eqb}
-use Rattle.cells.specs.Chips.{bit, mask}
-use Rattle.passes.specs.Passes.{catch_word}
+use Prim.Native.Nat.{◌-◌}
+use Rattle.cells.specs.Chips.{mask}
 use Rattle.passes.specs.Scan.{equals_catch_word}
-use Rattle.cells.proofs.Loops.{Upto, none_yet, mask_more, upto_all}
-use borrow.Author.Rules.{rules}
+use Rattle.cells.proofs.Loops.{Upto}
 use Rattle.passes.proofs.equal.by_chip.Given as goal
 
 abbrev pub invariant-loop-k : goal.invariant-loop-k

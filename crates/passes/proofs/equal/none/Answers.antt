@@ -1,13 +1,12 @@
 -- `passes::equal::none` meets its contract. Assumes nothing.
 use mathlib.Core.Path.{refl, sym, ◌∙◌}
-use Prim.Native.Nat.{◌-◌}
 use borrow.Author.Tests.{eq-eqb, ne_eqb, eqb-true, eqb-false}
 use Rattle.cells.specs.Chips.{count}
 use Rattle.cells.specs.ChipLaws.{count_none, count_next}
 use Rattle.passes.specs.Passes.{catch_word}
 use Rattle.passes.specs.Scan.{equals_catch_word}
 use Rattle.passes.proofs.ScanLaws.{fails}
-use Rattle.cells.proofs.Loops.{Upto, none_yet, upto_more, upto_all}
+use Rattle.cells.proofs.Loops.{none_yet, upto_more, upto_all}
 use borrow.Author.Rules.{rules}
 use Rattle.passes.proofs.equal.none.Goals as goal
 

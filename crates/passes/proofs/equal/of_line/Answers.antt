@@ -2,7 +2,6 @@
 use mathlib.Core.Path.{sym, ◌∙◌}
 use borrow.Author.Tests.{eqb-true}
 use Rattle.cells.specs.ChipLaws.{count_mask}
-use borrow.Author.Rules.{rules}
 use Rattle.passes.proofs.equal.of_line.Goals as goal
 
 pub returns-then-none : goal.returns-then-none

@@ -1,11 +1,6 @@
-use mathlib.Core.Path.{sym}
-use native.Mathlib.Omega.{arith}
 use Rattle.cells.specs.Cells.{word_at}
-use Rattle.cells.proofs.Loops.{pending_lowest, pending_below}
-use Rattle.passes.specs.Passes.{catch_word, pass_one, is_unsound}
-use Rattle.passes.proofs.PassLaws.{sent_held, sent_catch_word}
-use Rattle.passes.proofs.Turns.{Exchanged, exchanged_none, exchanged_more, exchanged_all}
-use borrow.Author.Rules.{rules}
+use Rattle.passes.specs.Passes.{pass_one, is_unsound}
+use Rattle.passes.proofs.Turns.{Exchanged}
 use Rattle.passes.proofs.first.parity.Given as goal
 
 abbrev pub invariant-loop-rest : goal.invariant-loop-rest

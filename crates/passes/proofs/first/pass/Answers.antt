@@ -2,7 +2,6 @@
 use mathlib.Core.Path.{ap₂, ◌∙◌}
 use lib.Bits.{bit_or}
 use Rattle.passes.proofs.Masks.{candidates_either}
-use borrow.Author.Rules.{rules}
 use Rattle.passes.proofs.first.pass.Goals as goal
 
 pub returns : goal.returns

@@ -7,10 +7,9 @@ use lib.Dec.{eqb}
 use Rattle.cells.specs.Chips.{mask}
 use Rattle.passes.specs.Passes.{is_flagged}
 use Rattle.passes.specs.declared.syndromes.Syndromes.{Syndromes}
-use Rattle.passes.specs.Syndromes.{syndromes_of, syndrome_in, are_zero}
+use Rattle.passes.specs.Syndromes.{syndromes_of, syndrome_in}
 use Rattle.passes.proofs.SyndromeLaws.{unsound_mask, zero_mask}
 use Rattle.passes.proofs.PassLaws.{flagged_mask_lem}
-use borrow.Author.Rules.{rules}
 use Rattle.passes.proofs.first_two.flagged.Goals as goal
 
 -- the chips whose syndrome is not zero are the flagged ones

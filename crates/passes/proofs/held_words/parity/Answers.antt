@@ -1,9 +1,7 @@
 -- `passes::held_words::parity` meets its contract. Assumes nothing.
 use mathlib.Core.Path.{refl}
-use Prim.Native.Nat.{◌-◌}
 use Rattle.cells.specs.Chips.{xor_all}
-use Rattle.cells.specs.Cells.{word_at}
-use Rattle.cells.proofs.Loops.{Upto, none_yet, xor_more, upto_all}
+use Rattle.cells.proofs.Loops.{none_yet, xor_more, upto_all}
 use borrow.Author.Rules.{rules}
 use Rattle.passes.proofs.held_words.parity.Goals as goal
 

@@ -1,9 +1,7 @@
-use mathlib.Core.Path.{refl}
 use Prim.Native.Nat.{◌-◌}
 use Rattle.cells.specs.Chips.{xor_all}
 use Rattle.cells.specs.Cells.{word_at}
-use Rattle.cells.proofs.Loops.{Upto, none_yet, xor_more, upto_all}
-use borrow.Author.Rules.{rules}
+use Rattle.cells.proofs.Loops.{Upto}
 use Rattle.passes.proofs.held_words.parity.Given as goal
 
 abbrev pub invariant-loop-k : goal.invariant-loop-k

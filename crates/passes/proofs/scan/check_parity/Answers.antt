@@ -7,7 +7,6 @@ use Rattle.cells.specs.Cells.{check_at}
 use Rattle.cells.specs.Checks.{xor_lanes}
 use Rattle.cells.specs.CheckLaws.{across_xor}
 use Rattle.passes.proofs.ScanLaws.{check_fits}
-use borrow.Author.Rules.{rules}
 use Rattle.passes.proofs.scan.check_parity.Goals as goal
 
 pub returns : goal.returns

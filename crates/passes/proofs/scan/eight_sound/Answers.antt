@@ -6,7 +6,6 @@ use Rattle.cells.specs.Cells.{word_at}
 use Rattle.words.specs.Bytes.{Bytes}
 use Rattle.cells.specs.Checks.{word_every}
 use Rattle.passes.proofs.ScanLaws.{same_test, fails, eight_made, eight_read}
-use borrow.Author.Rules.{rules}
 use Rattle.passes.proofs.scan.eight_sound.Goals as goal
 
 pub returns-then-asked-held : goal.returns-then-asked-held

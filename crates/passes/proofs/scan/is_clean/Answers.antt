@@ -1,9 +1,8 @@
 -- `passes::scan::is_clean` meets its contract. Assumes nothing.
 use mathlib.Core.Path.{sym, ◌∙◌}
-use borrow.Author.Tests.{eq-eqb, eqb-true, eqb-false, not-true, not-false}
+use borrow.Author.Tests.{eq-eqb, eqb-true, eqb-false}
 use Rattle.words.specs.Bytes.{Bytes}
 use Rattle.passes.proofs.ScanLaws.{same_test, fails, clean_made, clean_read}
-use borrow.Author.Rules.{rules}
 use Rattle.passes.proofs.scan.is_clean.Goals as goal
 
 pub returns-then-parity-ne0 : goal.returns-then-parity-ne0

@@ -2,7 +2,6 @@
 use mathlib.Core.Path.{◌∙◌}
 use Rattle.lanes.specs.Lanes.{lanes}
 use Rattle.cells.specs.Checks.{every_other}
-use borrow.Author.Rules.{rules}
 use Rattle.passes.proofs.syndromes.every_other.Goals as goal
 
 pub returns : goal.returns

@@ -1,7 +1,6 @@
 -- `passes::syndromes::of_chip` meets its contract. Assumes nothing.
 use borrow.Author.Tests.{eq-eqb, ne_eqb}
 use Rattle.passes.specs.Syndromes.{syndrome_in}
-use borrow.Author.Rules.{rules}
 use Rattle.passes.proofs.syndromes.of_chip.Goals as goal
 
 pub returns-then-k-eq8 : goal.returns-then-k-eq8

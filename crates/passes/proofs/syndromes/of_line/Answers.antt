@@ -8,7 +8,6 @@ use Rattle.cells.specs.Checks.{word_every}
 use Rattle.words.specs.Bytes.{Bytes}
 use Rattle.passes.specs.Syndromes.{syndromes_of}
 use Rattle.passes.proofs.SyndromeLaws.{made_other}
-use borrow.Author.Rules.{rules}
 use Rattle.passes.proofs.syndromes.of_line.Goals as goal
 
 pub returns : goal.returns

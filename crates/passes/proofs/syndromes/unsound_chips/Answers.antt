@@ -1,11 +1,11 @@
 -- `passes::syndromes::unsound_chips` meets its contract. Assumes nothing.
 use mathlib.Core.Path.{refl, ap, ◌∙◌}
 use mathlib.Core.Bool.{not}
-use Prim.Native.Nat.{ℕ, ◌*◌, ◌-◌, ◌^◌}
+use Prim.Native.Nat.{ℕ, ◌*◌, ◌^◌}
 use lib.Dec.{eqb}
 use Rattle.cells.specs.Chips.{bit, mask}
 use Rattle.passes.specs.Syndromes.{syndrome_in}
-use Rattle.cells.proofs.Loops.{Upto, none_yet, mask_more, upto_all}
+use Rattle.cells.proofs.Loops.{none_yet, mask_more, upto_all}
 use borrow.Author.Rules.{rules}
 use Rattle.passes.proofs.syndromes.unsound_chips.Goals as goal
 

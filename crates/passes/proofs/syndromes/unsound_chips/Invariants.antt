@@ -1,11 +1,9 @@
-use mathlib.Core.Path.{refl, ap, ◌∙◌}
 use mathlib.Core.Bool.{not}
-use Prim.Native.Nat.{ℕ, ◌*◌, ◌-◌, ◌^◌}
+use Prim.Native.Nat.{ℕ, ◌-◌}
 use lib.Dec.{eqb}
-use Rattle.cells.specs.Chips.{bit, mask}
+use Rattle.cells.specs.Chips.{mask}
 use Rattle.passes.specs.Syndromes.{syndrome_in}
-use Rattle.cells.proofs.Loops.{Upto, none_yet, mask_more, upto_all}
-use borrow.Author.Rules.{rules}
+use Rattle.cells.proofs.Loops.{Upto}
 use Rattle.passes.proofs.syndromes.unsound_chips.Given as goal
 
 abbrev pub invariant-loop-k : goal.invariant-loop-k

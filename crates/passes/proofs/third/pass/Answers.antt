@@ -1,18 +1,15 @@
 -- `passes::third::pass` meets its contract. Assumes nothing.
 use mathlib.Core.Path.{◌≡◌, sym, ap, ap₂, ◌∙◌}
-use mathlib.Core.List.{List}
 use Prim.Native.Nat.{ℕ, ◌%◌}
 use native.Mathlib.Omega.{arith}
 use Rattle.code.specs.Code.{cell, syndrome_of, mended, mended_word, status_of, is_beyond}
 use Rattle.cells.specs.Cells.{cell_at}
 use Rattle.cells.proofs.Loops.{pending_lowest, pending_below}
-use Rattle.passes.specs.Passes.{catch_word, is_flagged, chip_status}
+use Rattle.passes.specs.Passes.{catch_word, chip_status}
 use Rattle.passes.specs.Syndromes.{syndrome_in}
 use Rattle.passes.proofs.SyndromeLaws.{syndrome_in_is}
-use Rattle.passes.proofs.Turns.{Put, put_none, put_more, put_all, Sent, sent_none, sent_more, sent_all}
-use borrow.Author.Rules.{rules}
+use Rattle.passes.proofs.Turns.{put_none, put_more, put_all, sent_none, sent_more, sent_all}
 use Rattle.passes.proofs.third.pass.Goals as goal
-use Rattle.passes.proofs.third.pass.Invariants.{word, check}
 
 pub loop-rest-init : goal.loop-rest-init
 loop-rest-init c = (

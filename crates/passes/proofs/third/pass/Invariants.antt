@@ -1,15 +1,9 @@
-use mathlib.Core.Path.{◌≡◌, sym, ap, ap₂, ◌∙◌}
 use mathlib.Core.List.{List}
 use Prim.Native.Nat.{ℕ, ◌%◌}
-use native.Mathlib.Omega.{arith}
-use Rattle.code.specs.Code.{cell, syndrome_of, mended, mended_word, status_of, is_beyond}
+use Rattle.code.specs.Code.{mended, mended_word}
 use Rattle.cells.specs.Cells.{cell_at}
-use Rattle.cells.proofs.Loops.{pending_lowest, pending_below}
-use Rattle.passes.specs.Passes.{catch_word, is_flagged, chip_status}
-use Rattle.passes.specs.Syndromes.{syndrome_in}
-use Rattle.passes.proofs.SyndromeLaws.{syndrome_in_is}
-use Rattle.passes.proofs.Turns.{Put, put_none, put_more, put_all, Sent, sent_none, sent_more, sent_all}
-use borrow.Author.Rules.{rules}
+use Rattle.passes.specs.Passes.{is_flagged}
+use Rattle.passes.proofs.Turns.{Put, Sent}
 use Rattle.passes.proofs.third.pass.Given as goal
 
 -- the word and the check byte of chip k after mending
