@@ -5,7 +5,7 @@ use Rattle.std.proofs.Common.{sym, ap₂, ◌∙◌, eq-or-lt_of_le, eq-zero-or-
 use Rattle.std.proofs.Math.Path.{ap}
 use Rattle.std.proofs.Math.Logic.{⊎_elim}
 use Rattle.std.proofs.lemmas.Bool.{eqb-false, lt-leb}
-use Rattle.bytes.specs.Bytes.{index_of}
+use Rattle.events.specs.Places.{index_of}
 use Rattle.events.specs.Fields.{space, on_first, fields}
 use Rattle.events.specs.FieldLaws.{place_within, some_field, fields_cut, fields_whole}
 use Rattle.events.specs.Numbers.{is_decimal, is_hex, value_of, leading_to, leading_number}

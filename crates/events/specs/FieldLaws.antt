@@ -2,7 +2,7 @@
 -- Assumes nothing.
 use Rattle.std.specs.Prelude.{◌≡◌, refl, Bool, true, false, cond, List, [], ◌∷◌, ℕ, suc, ◌-◌, ◌≤◌, ◌<◌, eqb, length, get_or, take, drop}
 use Rattle.std.proofs.Common.{ap, zero-le, not-suc-le-zero, le_of_suc-le-suc, arith, length-drop, take_all, eqb-true}
-use Rattle.bytes.specs.Bytes.{index_of, index_after}
+use Rattle.events.specs.Places.{index_of, index_after}
 use Rattle.events.specs.Fields.{space, on_first, fields}
 
 -- ---- the place of the first byte of a value

@@ -8,7 +8,7 @@ use mathlib.Core.List.{List, [], ◌∷◌, ◌++◌}
 use Prim.Native.Nat.{ℕ, suc, ◌+◌, ◌-◌, ◌*◌, ◌^◌, ◌≤◌, ◌<◌, zero-le}
 use Rattle.std.proofs.Math.Nat.{pow-zero, pow-le-pow_right}
 use Rattle.code.specs.TestLaws.{and_first, and_second}
-use Rattle.bytes.specs.Bytes.{index_of, index_after}
+use Rattle.events.specs.Places.{index_of, index_after}
 use Rattle.events.specs.Fields.{space}
 use Rattle.events.specs.Numbers.{digit_of, is_numeral, value_from, value_of, is_decimal, is_hex, number_if}
 use Rattle.events.specs.declared.numbers.Number.{Number}

@@ -1,7 +1,7 @@
 -- Document 01, "Bench examples", program `bench`: numbers of a script. s stands for a field's bytes.
 -- Definitions alone; what holds of them is in `NumberLaws`.
 use Rattle.std.specs.Prelude.{ℕ, ◌+◌, ◌-◌, ◌*◌, Bool, true, ◌&&◌, cond, List, [], ◌∷◌, eqb, leb, ltb, length, take}
-use Rattle.bytes.specs.Bytes.{index_of}
+use Rattle.events.specs.Places.{index_of}
 use Rattle.events.specs.Fields.{space}
 use Rattle.events.specs.declared.numbers.Number.{Number}
 use Rattle.events.specs.declared.numbers.Number.TheVariants as number

@@ -6,6 +6,7 @@ ghost use Rattle.events.specs.Fields.{fields};
 ghost use Rattle.events.specs.Events.{event_of, letter_event, write_event, byte_event, read_event, pattern_event, chip_event, fault_event};
 
 pub mod numbers;
+pub mod places;
 
 use numbers::{Leading, Number, leading_number};
 

@@ -1,10 +1,10 @@
 // Numbers of a script: decimal and hexadecimal fields.
 ghost use Rattle.std.specs.Prelude.{◌≡◌, ◌≤◌, length};
-ghost use Rattle.bytes.specs.Bytes.{index_of};
+ghost use Rattle.events.specs.Places.{index_of};
 ghost use Rattle.events.specs.Fields.{space};
 ghost use Rattle.events.specs.Numbers.{digit_of, is_numeral, is_decimal, is_hex, value_of, number_if, leading_number};
 
-use bytes::scan::find;
+use crate::places::find;
 
 // What a field holds: a number, or something else.
 #[derive(Clone, Copy)]

@@ -3,6 +3,7 @@
 #![tactic(auto)]
 
 use record::Rank;
+use std::io;
 
 // The catch-words of document 01's bench.
 pub const CATCH_WORD: u64 = 0x1111_1111_1111_1111;
@@ -29,8 +30,8 @@ pub fn booted() -> Session {
 }
 
 // Prints what a session tried, how many of its calls did what was due, and of how many.
-pub fn report(what: &[u8], s: Session) {
-    trials::report(what, s.held, s.made);
+pub fn report(rt: &impl Print, what: &[u8], s: Session) -> io::Result<()> {
+    trials::report(rt, what, s.held, s.made)
 }
 
 // A record with one catch-word for all nine chips.
@@ -63,7 +64,7 @@ pub fn counted(s: Session, held: bool) -> Session {
 }
 
 fn same_memory(a: &Memory, b: &Memory) -> bool {
-    check::same(a, b)
+    a == b
 }
 
 // Whether two records are the same.
@@ -120,7 +121,7 @@ pub fn read(s: Session, line: u32, task: u32, byte: u8, length: usize, due: [u32
 fn is_filled(buffer: &[u8; 65], byte: u8) -> bool {
     let mut due = [byte; 65];
     due[64] = 0x5a;
-    check::same(buffer, &due)
+    *buffer == due
 }
 
 // The numbers are the refusal, the lines visited, the lines refused and the words rewritten.

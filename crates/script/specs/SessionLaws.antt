@@ -11,7 +11,7 @@ use Rattle.std.proofs.Math.Arith.{lt_of_le-ne}
 use Rattle.std.proofs.Math.ListN.{length, get_or, take, length-drop}
 use Rattle.std.proofs.lemmas.List.Edits.{sets-eq}
 use Rattle.std.proofs.Math.Seq.{take-length}
-use Rattle.bytes.specs.Bytes.{index_of, index_after, slice}
+use Rattle.events.specs.Places.{index_of, index_after, slice}
 use Rattle.record.specs.declared.Rank.{Rank}
 use Rattle.events.specs.Fields.{line_feed}
 use Rattle.events.specs.FieldLaws.{place_holds}

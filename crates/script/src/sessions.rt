@@ -4,7 +4,7 @@ ghost use Rattle.texts.specs.Texts.{longest_text, Laid};
 ghost use Rattle.script.specs.Sessions.{Advance, Finish};
 
 use answers::answer;
-use bytes::scan::find;
+use events::places::find;
 use record::Rank;
 
 // The bytes that are kept of a line. A longer line is no event, and neither are its first 41 bytes.

@@ -100,6 +100,6 @@ pub fn put(out: &mut [u8], at: usize, text: &[u8]) -> usize
     ensures next { result ≡ at + length text.now }
 {
     let end = at + text.len();
-    bytes::copy(text, &mut out[at..end]);
+    out[at..end].copy_from_slice(text);
     end
 }

@@ -2,16 +2,14 @@
 // another way than that of `code`, and the line of output that says how many trials of a kind succeeded.
 #![tactic(auto)]
 
-use libc::STDOUT_FILENO;
+use std::io;
+use std::io::Write;
 
 // Prints what was tried, how many trials succeeded, and of how many.
-pub fn report(what: &[u8], count: u64, n: u64) {
-    io::write_all(STDOUT_FILENO, what);
-    io::write_all(STDOUT_FILENO, b": ");
-    io::print_decimal(STDOUT_FILENO, count);
-    io::write_all(STDOUT_FILENO, b" of ");
-    io::print_decimal(STDOUT_FILENO, n);
-    io::write_all(STDOUT_FILENO, b"\n");
+pub fn report(rt: &impl Print, what: &[u8], count: u64, n: u64) -> io::Result<()> {
+    let mut out = io::writer(rt);
+    out.write_all(what)?;
+    writeln!(out, ": {count} of {n}")
 }
 
 // Whether the numbers that a visit or a call reports are those that are due.

@@ -3,6 +3,7 @@
 #![tactic(auto)]
 
 use code::Status;
+use std::io;
 use trials::{remainder, word_of};
 
 mod former;
@@ -28,19 +29,19 @@ enum Trial {
     Former,
 }
 
-fn main() {
-    report(b"marked examples", Trial::Marked, 12);
-    report(b"published CRC-8", Trial::Published, 1);
-    report(b"words with one bit set", Trial::OneBitWord, 64);
-    report(b"words of a fixed sequence", Trial::Word, 4096);
-    report(b"the same, eight at once", Trial::EightWords, 4096);
-    report(b"one-bit damages of 4 codewords", Trial::Damage, 288);
-    report(b"word 0 beside each check byte", Trial::Syndrome, 256);
-    report(b"positions in the former table", Trial::Former, 256);
+fn main(rt: HostRuntime) -> io::Result<()> {
+    report(&rt, b"marked examples", Trial::Marked, 12)?;
+    report(&rt, b"published CRC-8", Trial::Published, 1)?;
+    report(&rt, b"words with one bit set", Trial::OneBitWord, 64)?;
+    report(&rt, b"words of a fixed sequence", Trial::Word, 4096)?;
+    report(&rt, b"the same, eight at once", Trial::EightWords, 4096)?;
+    report(&rt, b"one-bit damages of 4 codewords", Trial::Damage, 288)?;
+    report(&rt, b"word 0 beside each check byte", Trial::Syndrome, 256)?;
+    report(&rt, b"positions in the former table", Trial::Former, 256)
 }
 
-fn report(what: &[u8], trial: Trial, n: u64) {
-    trials::report(what, count_successes(trial, n), n);
+fn report(rt: &impl Print, what: &[u8], trial: Trial, n: u64) -> io::Result<()> {
+    trials::report(rt, what, count_successes(trial, n), n)
 }
 
 // How many of the first n trials succeed.

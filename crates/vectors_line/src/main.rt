@@ -2,13 +2,20 @@
 // was tried, how many trials succeeded, and of how many.
 #![tactic(auto)]
 
+use std::io;
+
 mod lines;
 mod visits;
 
-fn main() {
-    trials::report(b"a line laid and read back", reads_back(0) as u64, 1);
-    trials::report(b"collisions on all nine chips", all_collide(0) as u64, 1);
-    visits::report();
+fn main(rt: HostRuntime) -> io::Result<()> {
+    trials::report(&rt, b"a line laid and read back", reads_back(0) as u64, 1)?;
+    trials::report(
+        &rt,
+        b"collisions on all nine chips",
+        all_collide(0) as u64,
+        1,
+    )?;
+    visits::report(&rt)
 }
 
 fn reads_back(i: u64) -> bool {
@@ -18,7 +25,7 @@ fn reads_back(i: u64) -> bool {
     let mut back = [0u8; 64];
     cells::lay_line(&mut line, &bytes);
     cells::read_line(&line, &mut back);
-    check::same(&line, &lines::laid(words)) && check::same(&back, &bytes)
+    line == lines::laid(words) && back == bytes
 }
 
 fn all_collide(i: u64) -> bool {

@@ -2,6 +2,7 @@
 // chips, the refusal that is due, 0 for an answer, and the passes. Each line is a memory of its own: its row has no other line, and nothing
 // is diagnosed.
 use super::lines;
+use std::io;
 
 // The chip is as it was laid.
 const NONE: u32 = 0;
@@ -23,47 +24,55 @@ const CODE: u32 = 5;
 // It is as it was laid, and its word is its catch-word.
 const SAME: u32 = 6;
 
-pub fn report() {
-    report_answered();
-    report_collisions();
-    report_beyond();
-    report_refused();
+pub fn report(rt: &impl Print) -> io::Result<()> {
+    report_answered(rt)?;
+    report_collisions(rt)?;
+    report_beyond(rt)?;
+    report_refused(rt)
 }
 
-fn report_answered() {
-    visits(b"clean lines", [NONE, NONE, NONE, 0, 1]);
-    visits(b"one bit inverted", [BIT, NONE, NONE, 0, 2]);
-    visits(b"07h, rebuilt and not mended", [C07, NONE, NONE, 0, 2]);
-    visits(b"bits of two chips", [BIT, BIT, NONE, 0, 3]);
-    visits(b"bits of three chips", [BIT, BIT, BIT, 0, 3]);
+fn report_answered(rt: &impl Print) -> io::Result<()> {
+    visits(rt, b"clean lines", [NONE, NONE, NONE, 0, 1])?;
+    visits(rt, b"one bit inverted", [BIT, NONE, NONE, 0, 2])?;
+    visits(rt, b"07h, rebuilt and not mended", [C07, NONE, NONE, 0, 2])?;
+    visits(rt, b"bits of two chips", [BIT, BIT, NONE, 0, 3])?;
+    visits(rt, b"bits of three chips", [BIT, BIT, BIT, 0, 3])
 }
 
-fn report_collisions() {
-    visits(b"a collision", [SAME, NONE, NONE, 0, 2]);
-    visits(b"two collisions", [SAME, SAME, NONE, 0, 2]);
-    visits(b"a collision and a bit", [SAME, BIT, NONE, 0, 2]);
-    visits(b"a collision and two bits", [SAME, BIT, BIT, 0, 3]);
+fn report_collisions(rt: &impl Print) -> io::Result<()> {
+    visits(rt, b"a collision", [SAME, NONE, NONE, 0, 2])?;
+    visits(rt, b"two collisions", [SAME, SAME, NONE, 0, 2])?;
+    visits(rt, b"a collision and a bit", [SAME, BIT, NONE, 0, 2])?;
+    visits(rt, b"a collision and two bits", [SAME, BIT, BIT, 0, 3])
 }
 
-fn report_beyond() {
-    visits(b"300h and a bit", [W300, BIT, NONE, 0, 3]);
-    visits(b"03h and a bit", [C03, BIT, NONE, 0, 3]);
-    visits(b"300h and two bits", [W300, BIT, BIT, 0, 3]);
-    visits(b"300h, a collision and a bit", [W300, SAME, BIT, 0, 3]);
+fn report_beyond(rt: &impl Print) -> io::Result<()> {
+    visits(rt, b"300h and a bit", [W300, BIT, NONE, 0, 3])?;
+    visits(rt, b"03h and a bit", [C03, BIT, NONE, 0, 3])?;
+    visits(rt, b"300h and two bits", [W300, BIT, BIT, 0, 3])?;
+    visits(rt, b"300h, a collision and a bit", [W300, SAME, BIT, 0, 3])
 }
 
-fn report_refused() {
-    visits(b"20 by a codeword", [CODE, NONE, NONE, 20, 1]);
-    visits(b"20 by a codeword, a collision", [CODE, SAME, NONE, 20, 2]);
-    visits(b"21 by 07h and a bit", [C07, BIT, NONE, 21, 3]);
-    visits(b"21 by 07h, a bit, a collision", [C07, BIT, SAME, 21, 3]);
-    visits(b"21 by 300h twice", [W300, W300, NONE, 21, 3]);
-    visits(b"21 by 300h and 03h", [W300, C03, NONE, 21, 3]);
-    visits(b"21 by 03h twice and a bit", [C03, C03, BIT, 21, 3]);
+fn report_refused(rt: &impl Print) -> io::Result<()> {
+    visits(rt, b"20 by a codeword", [CODE, NONE, NONE, 20, 1])?;
+    visits(
+        rt,
+        b"20 by a codeword, a collision",
+        [CODE, SAME, NONE, 20, 2],
+    )?;
+    visits(rt, b"21 by 07h and a bit", [C07, BIT, NONE, 21, 3])?;
+    visits(
+        rt,
+        b"21 by 07h, a bit, a collision",
+        [C07, BIT, SAME, 21, 3],
+    )?;
+    visits(rt, b"21 by 300h twice", [W300, W300, NONE, 21, 3])?;
+    visits(rt, b"21 by 300h and 03h", [W300, C03, NONE, 21, 3])?;
+    visits(rt, b"21 by 03h twice and a bit", [C03, C03, BIT, 21, 3])
 }
 
-fn visits(what: &[u8], kind: [u32; 5]) {
-    trials::report(what, count_visits(kind), 648);
+fn visits(rt: &impl Print, what: &[u8], kind: [u32; 5]) -> io::Result<()> {
+    trials::report(rt, what, count_visits(kind), 648)
 }
 
 // How many of 648 visits succeed.
@@ -102,7 +111,7 @@ pub fn visit_leaves(
     let outcome = report.outcome;
     let refusal = line::refusal(outcome);
     let reported = [refusal, report.passes, report.flagged, report.collisions];
-    trials::same_numbers(reported, numbers) && check::same(&line, &after)
+    trials::same_numbers(reported, numbers) && line == after
 }
 
 // Line i with its damages.

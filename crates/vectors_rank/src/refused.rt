@@ -35,7 +35,7 @@ fn is_cleared(memory: &[u8; 163], number: u32) -> bool {
     let byte = if number == 0 { 0 } else { 0x5a };
     let mut due = [byte; 163];
     due[162] = 0x5a;
-    check::same(memory, &due)
+    *memory == due
 }
 
 // 12, 13 and 14. A renew has no memory.

@@ -3,23 +3,29 @@
 #![tactic(auto)]
 
 use rank_trials::{Session, booted, fault, read, report};
+use std::io;
 
 mod hits;
 mod patrols;
 mod reads;
 
-fn main() {
-    report(b"two chips beyond mending", two_beyond(booted()));
-    report(b"chip 8 blamed", chip_8(booted()));
-    report(b"12 and 13 of 127 other lines", reads::by_count(booted()));
-    report(b"chips that reach the mark", reads::by_chip(booted()));
-    report(b"lines of another row", reads::by_row(booted()));
-    report(b"a short last row", reads::by_short_row(booted()));
+fn main(rt: HostRuntime) -> io::Result<()> {
+    report(&rt, b"two chips beyond mending", two_beyond(booted()))?;
+    report(&rt, b"chip 8 blamed", chip_8(booted()))?;
     report(
+        &rt,
+        b"12 and 13 of 127 other lines",
+        reads::by_count(booted()),
+    )?;
+    report(&rt, b"chips that reach the mark", reads::by_chip(booted()))?;
+    report(&rt, b"lines of another row", reads::by_row(booted()))?;
+    report(&rt, b"a short last row", reads::by_short_row(booted()))?;
+    report(
+        &rt,
         b"another line, outside the premise",
         reads::another_line(booted()),
-    );
-    report(b"patrols over a bad row", patrols::over_row(booted()));
+    )?;
+    report(&rt, b"patrols over a bad row", patrols::over_row(booted()))
 }
 
 // Two chips beyond mending are refused without a diagnosis, which would blame chip 3.

@@ -21,7 +21,7 @@ fn patrol(s: Session, first: u32, due: [u32; 4], left: [u32; 4]) -> Session {
     let p = rank::rank_patrol(rank, &mut memory, 0, first, 128);
     let numbers = [p.refusal, p.visited, p.refused, p.rewritten];
     let right = trials::same_numbers(numbers, due) & same(p.rank, repaired(rank, due[3]));
-    counted(s, right & check::same(&memory, &after))
+    counted(s, right & (memory == after))
 }
 
 // Hits chip 0 by 07h on lines from one up to another, and chip 1 by a bit.

@@ -101,7 +101,7 @@ fn reads(
     let line = damage.wanted[1];
     let record = due_after(rank, after, damage, due[0], answer);
     hit(rank, memory, damage);
-    read_gives(rank, memory, line, due, answer, record) & check::same(memory, after)
+    read_gives(rank, memory, line, due, answer, record) & (*memory == *after)
 }
 
 // Makes of a memory what the read is to leave, and gives the record that it is to return. A refused one changes nothing.
@@ -128,7 +128,7 @@ fn read_gives(
     let numbers = [r.refusal, r.passes, r.flagged, r.collisions];
     trials::same_numbers(numbers, [due[0], due[1], 0x003, 0x000])
         & same(r.rank, record)
-        & check::same(&buffer, &answer)
+        & (buffer == answer)
 }
 
 // Hits the row, and writes and hits the wanted line.

@@ -1,5 +1,5 @@
 -- `rank_trials::same` is safe and ends. Assumes nothing.
-use Rattle.std.proofs.Common.{◌-◌, ◌≤◌, rules}
+use Rattle.std.proofs.Common.{◌-◌, ◌≤◌}
 use Rattle.rank_trials.proofs.same.Given as goal
 
 abbrev pub invariant-loop-k : goal.invariant-loop-k

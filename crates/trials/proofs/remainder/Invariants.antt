@@ -1,6 +1,5 @@
 -- `trials::remainder` is safe, and ends after 72 turns. Assumes nothing.
 use Prim.Native.Nat.{◌≤◌}
-use borrow.Author.Rules.{rules}
 use Rattle.trials.proofs.remainder.Given as goal
 
 abbrev pub invariant-loop-left : goal.invariant-loop-left

@@ -1,7 +1,5 @@
-use mathlib.Core.Logic.{⊎_elim}
+-- `vectors_code::count_successes` is safe, since it counts no more than one a turn, and ends. Assumes nothing.
 use Prim.Native.Nat.{◌-◌, ◌≤◌}
-use native.Mathlib.Omega.{arith}
-use borrow.Author.Rules.{rules}
 use Rattle.vectors_code.proofs.count_successes.Given as goal
 
 abbrev pub invariant-loop-i : goal.invariant-loop-i

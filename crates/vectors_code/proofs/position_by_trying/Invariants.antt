@@ -1,6 +1,5 @@
 -- `vectors_code::position_by_trying` is safe, and ends after at most 72 turns. Assumes nothing.
 use Prim.Native.Nat.{◌-◌, ◌≤◌}
-use borrow.Author.Rules.{rules}
 use Rattle.vectors_code.proofs.position_by_trying.Given as goal
 
 abbrev pub invariant-loop-i : goal.invariant-loop-i
