@@ -2,7 +2,7 @@
 -- document 02, Req 01 (repairs by task).
 -- r stands for the record.
 -- Definitions alone; what holds of them is in `RecordLaws`.
-use Rattle.std.specs.Prelude.{ℕ, zero, suc, ◌+◌, ◌%◌, ◌^◌, min, Bool, true, false, cond, ◌&&◌, List, set, replicate, count_ones, nat_le, nat_lt, slice_index, slice_set}
+use Rattle.std.specs.Prelude.{ℕ, zero, suc, ◌+◌, ◌%◌, ◌^◌, min, Bool, true, false, cond, ◌&&◌, List, replicate, count_ones, nat_le, nat_lt, slice_index, slice_set}
 use Rattle.cells.specs.Cells.{chips}
 use Rattle.cells.specs.Chips.{of_chips, in_mask}
 use Rattle.line.specs.declared.Report.{Report}

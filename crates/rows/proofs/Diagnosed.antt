@@ -2,7 +2,7 @@
 -- was counted over the other lines of its row. Assumes nothing.
 use mathlib.Core.Path.{◌≡◌, refl, sym, ap, ap₂, ◌∙◌, subst⁻¹}
 use mathlib.Core.Logic.{◌≢◌}
-use mathlib.Core.Bool.{Bool, true, false, not, ◌&&◌, and-false, cond, true≢false}
+use mathlib.Core.Bool.{Bool, true, false, ◌&&◌, cond, true≢false}
 use mathlib.Core.List.{List}
 use Prim.Native.Nat.{ℕ, ◌+◌, ◌-◌, ◌*◌, ◌^◌, ◌≤◌, ◌<◌, min}
 use native.Mathlib.Decide.{ℕ_discrete}
@@ -10,18 +10,18 @@ use native.Mathlib.Nat.{le_antisymm}
 use native.Mathlib.Omega.{arith}
 use lib.Bits.{bit_and, bit_xor}
 use lib.Count.{ones, count_trailing_zeros}
-use lib.Dec.{eqb, ltb, leb}
+use lib.Dec.{eqb, leb}
 use lib.ListN.{length, get_or, set, length-set}
-use borrow.Author.Tests.{eq-eqb, ne_eqb, eqb-true, eqb-false, leb-true, ltb-true}
+use borrow.Author.Tests.{eq-eqb, ne_eqb, eqb-true, eqb-false}
 use Rattle.code.specs.Code.{check_of}
 use Rattle.code.specs.TestLaws.{and_first, and_second}
 use Rattle.code.specs.XorLaws.{xor_cancel_r}
 use Rattle.code.specs.Lists.{up_from, without, sum_of}
-use Rattle.cells.specs.Chips.{of_chips, xor_all, bit, count, mask, in_mask, AtPlaces}
+use Rattle.cells.specs.Chips.{of_chips, xor_all, bit, count, mask, AtPlaces}
 use Rattle.cells.specs.ChipLaws.{get_d_of_chips, mask_ext, mask_zero, mask_lt, mask_count, count_mask, count_none, count_some, count_one, count_few, ones_mask, and_masks, in_mask_lem, xor_all_but}
 use Rattle.cells.specs.MaskLaws.{TakenOff, lowest_chip}
 use Rattle.passes.specs.Passes.{is_flagged, xor_others, pass_three}
-use Rattle.line.specs.Blame.{Evidence, reaches, other_reaches, is_blamed, blamed_chips, Blamed}
+use Rattle.line.specs.Blame.{Evidence, reaches, is_blamed, blamed_chips, Blamed}
 use Rattle.line.specs.BlameLaws.{reaches_true, reaches_false, le_reaches, blamed_flagged, who_is_blamed, blamed_one}
 use Rattle.line.specs.Found.{ChecksAt, ChecksIfAnswered}
 use Rattle.line.specs.Visit.{outcome_by, word_by, if_answered}

@@ -2,13 +2,13 @@
 -- the same for any catch-words; the passes that a visit reports where its row is diagnosed; and that it is not diagnosed for two chips
 -- beyond mending.
 -- Assumes nothing.
-use Rattle.std.specs.Prelude.{◌≡◌, refl, ◌≢◌, Bool, List, ltb}
-use Rattle.std.proofs.Common.{sym, ◌∙◌, add-zero}
+use Rattle.std.specs.Prelude.{◌≡◌, ◌≢◌, Bool, List, ltb}
+use Rattle.std.proofs.Common.{sym, ◌∙◌}
 use Rattle.std.proofs.Math.Path.{ap, ap₂}
 use Prim.Native.Nat.{ℕ, ◌+◌, ◌-◌, ◌*◌, ◌≤◌, ◌<◌, zero-le}
 use native.Mathlib.Omega.{arith}
 use Rattle.std.proofs.Math.ListN.{length}
-use Rattle.code.specs.Lists.{up_from, without, sum_of}
+use Rattle.code.specs.Lists.{up_from, sum_of}
 use Rattle.code.specs.ListLaws.{length_up_from, length_without, without_most}
 use Rattle.cells.specs.Chips.{xor_all, bit, count}
 use Rattle.cells.specs.ChipLaws.{bit_lt}

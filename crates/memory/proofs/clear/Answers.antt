@@ -1,6 +1,5 @@
 -- `memory::clear` meets its contract. Assumes nothing.
-use Prim.Native.Nat.{◌-◌}
-use Rattle.memory.proofs.Loops.{Cleared, cleared_none, cleared_more, cleared_all}
+use Rattle.memory.proofs.Loops.{cleared_none, cleared_more, cleared_all}
 use borrow.Author.Rules.{rules}
 use Rattle.memory.proofs.clear.Goals as goal
 

@@ -5,7 +5,6 @@ use native.Mathlib.Omega.{arith}
 use mathlib.Core.Path.{ap, ◌∙◌}
 use Rattle.cells.specs.Cells.{line_of}
 use Rattle.memory.proofs.Parts.{lent}
-use borrow.Author.Rules.{rules}
 use Rattle.memory.proofs.copy.Goals as goal
 
 pub returns : goal.returns

@@ -12,7 +12,6 @@ use Rattle.line.specs.Visit.{own_word, examined_of}
 use Rattle.line.specs.Found.{ChecksUnlessRefused}
 use Rattle.memory.specs.Lines.{line_at}
 use Rattle.memory.proofs.Parts.{lent}
-use borrow.Author.Rules.{rules}
 use Rattle.memory.proofs.examine.Goals as goal
 
 -- what the line's bytes x give

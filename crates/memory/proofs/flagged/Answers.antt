@@ -7,7 +7,6 @@ use mathlib.Core.List.{List}
 use Rattle.cells.specs.Chips.{mask}
 use Rattle.passes.specs.Passes.{is_flagged}
 use Rattle.memory.proofs.Parts.{lent}
-use borrow.Author.Rules.{rules}
 use Rattle.memory.proofs.flagged.Goals as goal
 
 pub returns : goal.returns

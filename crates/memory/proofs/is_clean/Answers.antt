@@ -6,7 +6,6 @@ use mathlib.Core.Path.{ap, ◌∙◌}
 use mathlib.Core.List.{List}
 use Rattle.passes.specs.Scan.{is_clean}
 use Rattle.memory.proofs.Parts.{lent}
-use borrow.Author.Rules.{rules}
 use Rattle.memory.proofs.is_clean.Goals as goal
 
 pub returns : goal.returns

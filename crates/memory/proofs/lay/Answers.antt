@@ -5,7 +5,6 @@ use native.Mathlib.Omega.{arith}
 use Rattle.cells.specs.Cells.{line_word}
 use Rattle.cells.specs.CellLaws.{length_stored}
 use Rattle.memory.proofs.Parts.{put_back}
-use borrow.Author.Rules.{rules}
 use Rattle.memory.proofs.lay.Goals as goal
 
 pub returns : goal.returns

@@ -15,7 +15,6 @@ use Rattle.line.specs.declared.Outcome.{Outcome}
 use Rattle.memory.specs.Lines.{line_at}
 use Rattle.memory.specs.LineLaws.{length_line_at}
 use Rattle.memory.proofs.Parts.{lent, put_back}
-use borrow.Author.Rules.{rules}
 use Rattle.memory.proofs.write_answered.Goals as goal
 
 -- the line with the flagged chips written back, if it is answered

@@ -11,7 +11,6 @@ use Rattle.cells.specs.CellLaws.{length_with_chip}
 use Rattle.memory.specs.Lines.{line_at, faulted}
 use Rattle.memory.specs.LineLaws.{length_line_at}
 use Rattle.memory.proofs.Parts.{lent, put_back}
-use borrow.Author.Rules.{rules}
 use Rattle.memory.proofs.xor_into.Goals as goal
 
 pub returns : goal.returns

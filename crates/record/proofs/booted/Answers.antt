@@ -1,5 +1,5 @@
 -- `record::booted` meets its contract. Assumes nothing.
-use Rattle.std.proofs.Common.{ℕ, ◌/◌, true, List, length, replicate, ap, rules}
+use Rattle.std.proofs.Common.{ℕ, ◌/◌, true, List, length, replicate, ap}
 use Rattle.record.specs.Record.{booted}
 use Rattle.record.proofs.booted.Goals as goal
 

@@ -1,5 +1,5 @@
 -- `record::count` meets its contract. Assumes nothing.
-use Rattle.std.proofs.Common.{ℕ, sym, ap, ◌∙◌, rules}
+use Rattle.std.proofs.Common.{ℕ, sym, ap, ◌∙◌}
 use Rattle.record.specs.Record.{counted_by}
 use Rattle.record.specs.RecordLaws.{counted_refused, counted_answered, uncounted}
 use Rattle.record.proofs.count.Goals as goal

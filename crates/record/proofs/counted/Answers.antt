@@ -1,7 +1,7 @@
 -- `record::counted` meets its contract. Assumes nothing.
-use Rattle.std.proofs.Common.{◌≡◌, ℕ, ◌+◌, ◌-◌, min, List, get_or, set, ap, ◌∙◌, arith, w32, Fits, rules}
+use Rattle.std.proofs.Common.{ℕ, ◌+◌, min, List, get_or, set, ap, ◌∙◌, arith, w32, Fits, rules}
 use Rattle.record.specs.Record.{total_limit}
-use Rattle.record.specs.RecordLaws.{counted_below, counted_start, counted_next, counted_all}
+use Rattle.record.specs.RecordLaws.{counted_start, counted_next, counted_all}
 use Rattle.record.proofs.counted.Goals as goal
 
 pub loop-i-preserved : goal.loop-i-preserved

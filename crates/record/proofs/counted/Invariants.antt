@@ -1,6 +1,5 @@
-use Rattle.std.proofs.Common.{◌≡◌, ℕ, ◌+◌, ◌-◌, min, List, get_or, set, ap, ◌∙◌, arith, w32, Fits, rules}
-use Rattle.record.specs.Record.{total_limit}
-use Rattle.record.specs.RecordLaws.{counted_below, counted_start, counted_next, counted_all}
+use Rattle.std.proofs.Common.{◌≡◌, ◌-◌}
+use Rattle.record.specs.RecordLaws.{counted_below}
 use Rattle.record.proofs.counted.Given as goal
 
 abbrev pub invariant-loop-i : goal.invariant-loop-i

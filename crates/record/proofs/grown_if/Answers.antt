@@ -1,5 +1,5 @@
 -- `record::grown_if` meets its contract. Assumes nothing.
-use Rattle.std.proofs.Common.{ℕ, Bool, cond, sym, ap, ◌∙◌, rules}
+use Rattle.std.proofs.Common.{ℕ, Bool, cond, sym, ap, ◌∙◌}
 use Rattle.record.specs.Record.{grown}
 use Rattle.record.proofs.grown_if.Goals as goal
 

@@ -1,5 +1,5 @@
 -- `record::move_words` meets its contract. Assumes nothing.
-use Rattle.std.proofs.Common.{ℕ, sym, ap, ◌∙◌, rules}
+use Rattle.std.proofs.Common.{ℕ, sym, ap, ◌∙◌}
 use Rattle.record.specs.Record.{moved_by}
 use Rattle.record.specs.RecordLaws.{moved_refused, moved_answered, unmoved}
 use Rattle.record.proofs.move_words.Goals as goal

@@ -1,7 +1,6 @@
 -- `record::moved` meets its contract. Assumes nothing.
-use Rattle.std.proofs.Common.{ℕ, ◌-◌, Bool, cond, get_or, refl, ap, ◌∙◌, rules}
-use Rattle.cells.specs.Chips.{in_mask}
-use Rattle.cells.specs.ArrayLaws.{Filled, filled_none, filled_more, filled_all}
+use Rattle.std.proofs.Common.{ℕ, Bool, cond, get_or, refl, ap, ◌∙◌, rules}
+use Rattle.cells.specs.ArrayLaws.{filled_none, filled_more, filled_all}
 use Rattle.record.specs.Record.{grown, moved}
 use Rattle.record.proofs.moved.Goals as goal
 

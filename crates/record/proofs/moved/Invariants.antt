@@ -1,7 +1,7 @@
-use Rattle.std.proofs.Common.{ℕ, ◌-◌, Bool, cond, get_or, refl, ap, ◌∙◌, rules}
+use Rattle.std.proofs.Common.{ℕ, ◌-◌, cond, get_or}
 use Rattle.cells.specs.Chips.{in_mask}
-use Rattle.cells.specs.ArrayLaws.{Filled, filled_none, filled_more, filled_all}
-use Rattle.record.specs.Record.{grown, moved}
+use Rattle.cells.specs.ArrayLaws.{Filled}
+use Rattle.record.specs.Record.{grown}
 use Rattle.record.proofs.moved.Given as goal
 
 abbrev pub invariant-loop-k : goal.invariant-loop-k

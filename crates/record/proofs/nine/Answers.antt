@@ -1,6 +1,6 @@
 -- `record::nine` meets its contract. Assumes nothing.
-use Rattle.std.proofs.Common.{ℕ, ◌-◌, get_or, refl, ◌∙◌, rules}
-use Rattle.cells.specs.ArrayLaws.{Filled, filled_none, filled_more, filled_all}
+use Rattle.std.proofs.Common.{refl, ◌∙◌, rules}
+use Rattle.cells.specs.ArrayLaws.{filled_none, filled_more, filled_all}
 use Rattle.cells.specs.ChipLaws.{of_chips_list}
 use Rattle.record.proofs.nine.Goals as goal
 

@@ -1,6 +1,5 @@
-use Rattle.std.proofs.Common.{ℕ, ◌-◌, get_or, refl, ◌∙◌, rules}
-use Rattle.cells.specs.ArrayLaws.{Filled, filled_none, filled_more, filled_all}
-use Rattle.cells.specs.ChipLaws.{of_chips_list}
+use Rattle.std.proofs.Common.{ℕ, ◌-◌, get_or}
+use Rattle.cells.specs.ArrayLaws.{Filled}
 use Rattle.record.proofs.nine.Given as goal
 
 abbrev pub invariant-loop-k : goal.invariant-loop-k

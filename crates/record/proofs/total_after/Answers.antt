@@ -1,5 +1,5 @@
 -- `record::total_after` meets its contract. Assumes nothing.
-use Rattle.std.proofs.Common.{arith, rules}
+use Rattle.std.proofs.Common.{arith}
 use Rattle.record.proofs.total_after.Goals as goal
 
 pub returns-then-sum-total : goal.returns-then-sum-total

@@ -1,5 +1,5 @@
 -- `rows::add` meets its contract. Assumes nothing.
-use mathlib.Core.Path.{◌≡◌, sym, ap, ap₂, ◌∙◌}
+use mathlib.Core.Path.{◌≡◌, sym, ap, ◌∙◌}
 use mathlib.Core.List.{List}
 use Prim.Native.Nat.{ℕ, ◌+◌}
 use native.Mathlib.Nat.{add-zero}
@@ -7,7 +7,6 @@ use lib.ListN.{length, get_or}
 use Rattle.cells.specs.Chips.{of_chips, bit, in_mask}
 use Rattle.cells.specs.ChipLaws.{of_chips_ext, of_chips_list}
 use Rattle.cells.specs.MaskLaws.{no_member}
-use borrow.Author.Rules.{rules}
 use Rattle.rows.proofs.add.Goals as goal
 
 -- a mask of no chip counts none

@@ -1,12 +1,11 @@
 -- `rows::added` meets its contract. Assumes nothing.
-use mathlib.Core.Path.{◌≡◌, refl, ap, ◌∙◌}
-use mathlib.Core.Bool.{Bool}
-use Prim.Native.Nat.{ℕ, ◌+◌, ◌-◌, ◌<◌}
+use mathlib.Core.Path.{refl, ap, ◌∙◌}
+use Prim.Native.Nat.{ℕ, ◌+◌}
 use native.Mathlib.Omega.{arith}
 use lib.ListN.{get_or}
-use Rattle.cells.specs.Chips.{bit, in_mask}
+use Rattle.cells.specs.Chips.{bit}
 use Rattle.cells.specs.ChipLaws.{bit_lt}
-use Rattle.cells.specs.ArrayLaws.{Filled, filled_none, filled_more, filled_all}
+use Rattle.cells.specs.ArrayLaws.{filled_none, filled_more, filled_all}
 use borrow.Author.Rules.{rules}
 use Rattle.rows.proofs.added.Goals as goal
 

@@ -1,12 +1,7 @@
-use mathlib.Core.Path.{◌≡◌, refl, ap, ◌∙◌}
-use mathlib.Core.Bool.{Bool}
-use Prim.Native.Nat.{ℕ, ◌+◌, ◌-◌, ◌<◌}
-use native.Mathlib.Omega.{arith}
+use Prim.Native.Nat.{ℕ, ◌+◌, ◌-◌}
 use lib.ListN.{get_or}
 use Rattle.cells.specs.Chips.{bit, in_mask}
-use Rattle.cells.specs.ChipLaws.{bit_lt}
-use Rattle.cells.specs.ArrayLaws.{Filled, filled_none, filled_more, filled_all}
-use borrow.Author.Rules.{rules}
+use Rattle.cells.specs.ArrayLaws.{Filled}
 use Rattle.rows.proofs.added.Given as goal
 
 abbrev pub invariant-loop-k : goal.invariant-loop-k

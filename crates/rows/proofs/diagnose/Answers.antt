@@ -1,15 +1,12 @@
 -- `rows::diagnose` meets its contract. Assumes nothing.
-use mathlib.Core.Path.{◌≡◌, ap, subst⁻¹}
+use mathlib.Core.Path.{ap, subst⁻¹}
 use Prim.Native.Nat.{ℕ, ◌*◌, ◌^◌, ◌<◌}
 use native.Mathlib.Omega.{arith}
-use Rattle.cells.specs.Chips.{mask}
 use Rattle.cells.specs.ChipLaws.{mask_lt}
-use Rattle.line.specs.Blame.{is_blamed}
 use Rattle.memory.specs.Lines.{line_at}
 use Rattle.rows.specs.Rows.{evidence_of}
 use Rattle.rows.proofs.RowLaws.{first_le}
 use Rattle.rows.proofs.Diagnosed.{others_are, blamed_made, rebuilt_as}
-use borrow.Author.Rules.{rules}
 use Rattle.rows.proofs.diagnose.Goals as goal
 
 pub end_of-end-requires : goal.end_of-end-requires

@@ -1,7 +1,6 @@
 -- `rows::first_of` meets its contract. Assumes nothing.
 use mathlib.Core.Path.{refl}
 use Rattle.rows.specs.Rows.{row_first}
-use borrow.Author.Rules.{rules}
 use Rattle.rows.proofs.first_of.Goals as goal
 
 pub returns : goal.returns

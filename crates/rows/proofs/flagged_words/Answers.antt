@@ -1,12 +1,7 @@
 -- `rows::flagged_words` meets its contract. Assumes nothing.
-use mathlib.Core.Path.{◌≡◌, refl, ap, ◌∙◌}
-use mathlib.Core.List.{List}
-use Prim.Native.Nat.{ℕ, ◌-◌}
+use mathlib.Core.Path.{◌∙◌}
 use native.Mathlib.Omega.{arith}
-use Rattle.passes.specs.Passes.{is_flagged}
-use Rattle.memory.specs.Lines.{line_at}
-use Rattle.rows.proofs.Counting.{Counted, counted_none, counted_skip, counted_more, all_counted, all_few}
-use borrow.Author.Rules.{rules}
+use Rattle.rows.proofs.Counting.{counted_none, counted_skip, counted_more, all_counted, all_few}
 use Rattle.rows.proofs.flagged_words.Goals as goal
 use Rattle.rows.proofs.flagged_words.Goals.{then-other-line, else-other-line}
 

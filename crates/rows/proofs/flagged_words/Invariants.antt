@@ -1,12 +1,7 @@
-use mathlib.Core.Path.{◌≡◌, refl, ap, ◌∙◌}
-use mathlib.Core.Logic.{⊎_elim}
-use mathlib.Core.List.{List}
-use Prim.Native.Nat.{ℕ, ◌-◌}
-use native.Mathlib.Omega.{arith}
+use Prim.Native.Nat.{◌-◌}
 use Rattle.passes.specs.Passes.{is_flagged}
 use Rattle.memory.specs.Lines.{line_at}
-use Rattle.rows.proofs.Counting.{Counted, counted_none, counted_skip, counted_more, all_counted, all_few}
-use borrow.Author.Rules.{rules}
+use Rattle.rows.proofs.Counting.{Counted}
 use Rattle.rows.proofs.flagged_words.Given as goal
 
 abbrev pub invariant-loop-other : goal.invariant-loop-other

@@ -1,11 +1,11 @@
 -- `rows::reaching` meets its contract. Assumes nothing.
 use mathlib.Core.Path.{refl}
-use Prim.Native.Nat.{ℕ, ◌-◌, ◌*◌}
+use Prim.Native.Nat.{ℕ, ◌*◌}
 use native.Mathlib.Omega.{arith}
 use lib.Dec.{leb}
 use lib.ListN.{get_or}
 use Rattle.cells.specs.Chips.{mask}
-use Rattle.cells.proofs.Loops.{Upto, none_yet, mask_more, upto_all}
+use Rattle.cells.proofs.Loops.{none_yet, mask_more, upto_all}
 use borrow.Author.Rules.{rules}
 use Rattle.rows.proofs.reaching.Goals as goal
 

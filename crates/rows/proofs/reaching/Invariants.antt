@@ -1,11 +1,8 @@
-use mathlib.Core.Path.{refl}
 use Prim.Native.Nat.{ℕ, ◌-◌, ◌*◌}
-use native.Mathlib.Omega.{arith}
 use lib.Dec.{leb}
 use lib.ListN.{get_or}
 use Rattle.cells.specs.Chips.{mask}
-use Rattle.cells.proofs.Loops.{Upto, none_yet, mask_more, upto_all}
-use borrow.Author.Rules.{rules}
+use Rattle.cells.proofs.Loops.{Upto}
 use Rattle.rows.proofs.reaching.Given as goal
 
 abbrev pub invariant-loop-k : goal.invariant-loop-k

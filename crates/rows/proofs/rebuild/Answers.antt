@@ -8,7 +8,6 @@ use lib.ListN.{get_or, set}
 use borrow.Author.Tests.{eq-eqb, ne_eqb}
 use Rattle.code.specs.Code.{check_of}
 use Rattle.cells.specs.MaskLaws.{lowest_chip}
-use borrow.Author.Rules.{rules}
 use Rattle.rows.proofs.rebuild.Goals as goal
 
 -- the lowest chip of a mask that has some
