@@ -23,7 +23,8 @@ use Rattle.line.specs.Damage.{Parity, Tolerated, Answerable, LeftUndecided}
 use Rattle.line.specs.Visit.{outcome_of, word_of, bytes_after, report_of}
 use Rattle.line.specs.OutcomeLaws.{either_answered}
 use Rattle.line.specs.DamageLaws.{line_parity}
-use Rattle.line.proofs.ToleratedLaws.{Restores, visit_answers, visit_diagnosed, visit_refuses, visit_kept, visit_beyond, visit_flagged}
+use Rattle.line.specs.Restores.{Restores}
+use Rattle.line.proofs.ToleratedLaws.{visit_answers, visit_diagnosed, visit_refuses, visit_kept, visit_beyond, visit_flagged}
 use Rattle.line.specs.declared.Report.{Report}
 use Rattle.line.specs.declared.Outcome.TheVariants.{Answered, Uncorrectable}
 use Rattle.record.specs.declared.Rank.{Rank}

@@ -19,7 +19,8 @@ use Rattle.passes.proofs.PassLaws.{sound_mended, sound_mends}
 use Rattle.line.specs.Blame.{Evidence}
 use Rattle.line.specs.Visit.{outcome_of, word_of, if_answered, with_words, written_back, bytes_after}
 use Rattle.line.specs.OutcomeLaws.{either_answered}
-use Rattle.line.proofs.ClosedFormLaws.{third_word_with, own_word_with, blamed_for, word_with, written_with, finding_for, word_for, bytes_for, outcome_is, word_is, bytes_is}
+use Rattle.line.specs.ClosedForm.{third_word_with, own_word_with, blamed_for, word_with, written_with, finding_for, word_for, bytes_for}
+use Rattle.line.proofs.ClosedFormLaws.{outcome_is, word_is, bytes_is}
 use Rattle.line.specs.declared.Outcome.{Outcome}
 use Rattle.line.specs.declared.Outcome.TheVariants.{Answered}
 use Rattle.line.specs.declared.Finding.{Finding}

@@ -25,9 +25,11 @@ use Rattle.passes.specs.Passes.{is_flagged, xor_others, chip_status, beyond_chip
 use Rattle.passes.proofs.PassLaws.{flagged_is, others_ext, others_cancel, others_sound, beyond_chips_count}
 use Rattle.line.specs.Blame.{Evidence, is_blamed, blamed_chips}
 use Rattle.line.specs.BlameLaws.{blamed_one}
-use Rattle.line.specs.Visit.{must_cancel, outcome_of, word_of, if_answered, written_back, bytes_after}
+use Rattle.line.specs.Restores.{Restores}
+use Rattle.line.specs.Visit.{must_cancel, outcome_of, if_answered, written_back, bytes_after}
 use Rattle.line.specs.Damage.{damaged, Parity, Tolerated, damaged_patterns, Answerable, few_damaged, all_undone, some_beyond, LeftUndecided}
-use Rattle.line.proofs.ClosedFormLaws.{third_finding_with, third_word_with, finding_with, own_word_with, blamed_for, outcome_with, word_with, written_with, finding_for, outcome_for, word_for, bytes_for, blamed_is, blamed_count, outcome_is, word_is, bytes_is}
+use Rattle.line.specs.ClosedForm.{third_finding_with, third_word_with, finding_with, own_word_with, blamed_for, outcome_with, word_with, written_with, finding_for, outcome_for, word_for, bytes_for}
+use Rattle.line.proofs.ClosedFormLaws.{blamed_is, blamed_count, outcome_is, word_is, bytes_is}
 use Rattle.line.specs.DamageLaws.{chip_damaged, cell_damaged, line_parity}
 use Rattle.line.specs.declared.Outcome.{Outcome}
 use Rattle.line.specs.declared.Outcome.TheVariants.{Answered, Uncorrectable}
@@ -108,12 +110,6 @@ narrow_undone p t j k hj hk wide ne = by (eqb (mended_word (p j)) 0) refl
     by : (b : Bool) → eqb (mended_word (p j)) 0 ≡ b → mended_word (p j) ≡ 0
     by true z = eqb-true (mended_word (p j)) 0 z
     by false z = absurd (ne (t.one_wide j k hj hk (remains_wide p t j hj (eqb-false (mended_word (p j)) 0 z)) wide))
-
--- a visit to the line m answers: with the words w, and its bytes are again those that were stored
-pub record Restores (m : List ℕ) (w : ℕ → ℕ) (e : Evidence) (cws : List ℕ) : Type 0 where
-  pub answered : outcome_of e m cws ≡ Answered
-  pub word : (k : ℕ) → k < 9 → word_of e m cws k ≡ w k
-  pub stored_again : bytes_after e m cws ≡ stored w
 
 laid_word : (x : ℕ) → cell x (check_of x) / 256 ≡ x
 laid_word x = cell_word x (check_of x) (check_lt x)

@@ -3,6 +3,8 @@ pub mod Visit
 pub mod Found
 pub mod Damage
 pub mod FormerVisit
+pub mod ClosedForm
+pub mod Restores
 pub mod OutcomeLaws
 pub mod FindingLaws
 pub mod BlameLaws

@@ -20,7 +20,7 @@ use Rattle.passes.specs.Passes.{catch_word, pass_one, is_candidate, is_unsound, 
 use Rattle.passes.proofs.PassLaws.{sent_held, candidate_is}
 use Rattle.cells.specs.Checks.{every_other}
 use Rattle.cells.specs.CheckLaws.{other_equal, checks_xor}
-use Rattle.passes.specs.Scan.{is_clean, equals_catch_word}
+use Rattle.passes.specs.Scan.{is_clean, equals_catch_word, Clean}
 
 -- ---- tests
 
@@ -100,13 +100,6 @@ module _ (m : List ℕ) (bytes : Bytes m) where
       ∙ ap check_of (xor_zero_eq (xor_all (word_at m) n) (word_at m n) words))
 
 -- ---- a clean line
-
--- what a clean line comes to
-pub record Clean (m cws : List ℕ) : Type 0 where
-  pub words : xor_all (word_at m) 9 ≡ 0
-  pub checks : xor_all (check_at m) 9 ≡ 0
-  pub eight : count (is_unsound m) 8 ≡ 0
-  pub none : count (equals_catch_word m cws) 9 ≡ 0
 
 module _ (m cws : List ℕ) where
   -- no chip is a candidate
