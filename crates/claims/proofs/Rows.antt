@@ -4,26 +4,24 @@ use mathlib.Core.Path.{◌≡◌, refl, sym, ap, ap₂, ◌∙◌}
 use mathlib.Core.Logic.{◌≢◌}
 use mathlib.Core.Bool.{Bool, true, false, not, ◌&&◌, and-true, cond}
 use mathlib.Core.List.{List}
-use Prim.Native.Nat.{ℕ, zero, suc, ◌+◌, ◌-◌, ◌*◌, ◌/◌, ◌≤◌, ◌<◌, min}
+use Prim.Native.Nat.{ℕ, zero, suc, ◌+◌, ◌-◌, ◌*◌, ◌/◌, ◌≤◌, ◌<◌}
 use native.Mathlib.Nat.{add-zero, zero-add}
 use native.Mathlib.Omega.{arith}
 use lib.Dec.{eqb, ltb, leb}
-use lib.ListN.{length}
 use borrow.Author.Tests.{eq-eqb, ne_eqb, lt-ltb}
 use Rattle.code.specs.Code.{is_codeword}
 use Rattle.code.specs.Lists.{up_from, without, sum_of}
 use Rattle.code.specs.ListLaws.{sum_without, sum_ones, sum_range, sum_none, sum_parts}
-use Rattle.words.specs.Bytes.{number_of}
 use Rattle.cells.specs.Chips.{bit, count}
 use Rattle.cells.specs.ChipLaws.{count_ext}
 use Rattle.cells.specs.Cells.{line_word}
 use Rattle.passes.specs.Passes.{is_flagged}
 use Rattle.line.specs.Blame.{Evidence, reaches, other_reaches, is_blamed}
 use Rattle.line.specs.DamageLaws.{line_parity}
-use Rattle.line.proofs.ToleratedLaws.{damaged_flagged, visit_flagged}
+use Rattle.line.proofs.ToleratedLaws.{damaged_flagged}
 use Rattle.memory.specs.Lines.{line_at}
 use Rattle.rows.specs.Rows.{row_first, row_size, other_lines, evidence_of}
-use Rattle.rows.proofs.RowLaws.{first_le, first_near}
+use Rattle.rows.proofs.RowLaws.{first_le}
 use Rattle.claims.specs.Plain.{Line, Plain, damage, is_other, other_count, unsound_lines, reaches_tenth, blames}
 use Rattle.claims.specs.Claim.{laid}
 use Rattle.claims.proofs.Related.{Formed, Holds}

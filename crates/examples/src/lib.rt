@@ -1,3 +1,2 @@
 // Lists of calls worked out by computation, as theorems: the claims are not empty. No function.
 #![tactic(auto)]
-

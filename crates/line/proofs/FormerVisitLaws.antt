@@ -104,42 +104,42 @@ module _ (e : Evidence) (m cws : List ℕ) where
 
   -- ---- before Req 02
 
+  -- words that had to xor to zero, and were answered, did
+  answered_cancels : (f : ℕ → ℕ) → cond (eqb (xor_all f 9) 0) Answered Uncorrectable ≡ Answered → xor_all f 9 ≡ 0
+  answered_cancels f a = by (eqb (xor_all f 9) 0) refl a
+    where
+      by : (b : Bool) → eqb (xor_all f 9) 0 ≡ b → cond b Answered Uncorrectable ≡ Answered → xor_all f 9 ≡ 0
+      by true z h = eqb-true (xor_all f 9) 0 z
+      by false z h = refused h
+
+  -- an answer by the line's own bytes, and the former words
+  abbrev Answers : Finding → (ℕ → ℕ) → (ℕ → ℕ) → Type 0
+  Answers f words former = (f ≡ Decided Answered) × ((k : ℕ) → k < 9 → words k ≡ former k)
+
+  third : xor_all (pass_three m cws) 9 ≡ 0 → (n : ℕ) → n ≤ 1 → Answers (third_finding n m cws) (third_word n m cws) (pass_three m cws)
+  unfolding third_finding third_word must_cancel
+  third z zero l = (rw (eq-eqb (xor_all (pass_three m cws) 9) 0 z), λ k h. refl)
+  third z (suc zero) l = (refl, λ k h. pick k h (is_flagged_beyond m cws k))
+    where
+      -- where all nine cancel, the xor of the other eight is the chip's own word
+      pick : (k : ℕ) → k < 9 → (b : Bool) → cond b (xor_others (pass_three m cws) k) (pass_three m cws k) ≡ pass_three m cws k
+      pick k h true = others_cancel (pass_three m cws) z k h
+      pick k h false = refl
+  third z (suc (suc n)) l = absurd (omega arith)
+
+  steps : beyond_chips m cws ≤ 1 → (n : ℕ) → former_outcome_by n m cws ≡ Answered → Answers (finding_by n m cws) (own_word_by n m cws) (former_word_by n m cws)
+  unfolding finding_by own_word_by former_outcome_by former_word_by must_cancel
+  steps few zero a = (by (eqb (xor_all (pass_one m cws) 9) 0) a, λ k h. refl)
+    where
+      by : (b : Bool) → cond b Answered Unlocated ≡ Answered → cond b (Decided Answered) (Decided Unlocated) ≡ Decided Answered
+      by true h = refl
+      by false h = ap Decided h
+  steps few (suc zero) a = (refl, λ k h. refl)
+  steps few (suc (suc n)) a = third (answered_cancels (pass_three m cws) a) (beyond_chips m cws) few
+
   module _ (few : beyond_chips m cws ≤ 1) where
-    -- words that had to xor to zero, and were answered, did
-    answered_cancels : (f : ℕ → ℕ) → cond (eqb (xor_all f 9) 0) Answered Uncorrectable ≡ Answered → xor_all f 9 ≡ 0
-    answered_cancels f a = by (eqb (xor_all f 9) 0) refl a
-      where
-        by : (b : Bool) → eqb (xor_all f 9) 0 ≡ b → cond b Answered Uncorrectable ≡ Answered → xor_all f 9 ≡ 0
-        by true z h = eqb-true (xor_all f 9) 0 z
-        by false z h = refused h
-
-    -- an answer by the line's own bytes, and the former words
-    abbrev Answers : Finding → (ℕ → ℕ) → (ℕ → ℕ) → Type 0
-    Answers f words former = (f ≡ Decided Answered) × ((k : ℕ) → k < 9 → words k ≡ former k)
-
-    third : xor_all (pass_three m cws) 9 ≡ 0 → (n : ℕ) → n ≤ 1 → Answers (third_finding n m cws) (third_word n m cws) (pass_three m cws)
-    unfolding third_finding third_word must_cancel
-    third z zero l = (rw (eq-eqb (xor_all (pass_three m cws) 9) 0 z), λ k h. refl)
-    third z (suc zero) l = (refl, λ k h. pick k h (is_flagged_beyond m cws k))
-      where
-        -- where all nine cancel, the xor of the other eight is the chip's own word
-        pick : (k : ℕ) → k < 9 → (b : Bool) → cond b (xor_others (pass_three m cws) k) (pass_three m cws k) ≡ pass_three m cws k
-        pick k h true = others_cancel (pass_three m cws) z k h
-        pick k h false = refl
-    third z (suc (suc n)) l = absurd (omega arith)
-
-    steps : (n : ℕ) → former_outcome_by n m cws ≡ Answered → Answers (finding_by n m cws) (own_word_by n m cws) (former_word_by n m cws)
-    unfolding finding_by own_word_by former_outcome_by former_word_by must_cancel
-    steps zero a = (by (eqb (xor_all (pass_one m cws) 9) 0) a, λ k h. refl)
-      where
-        by : (b : Bool) → cond b Answered Unlocated ≡ Answered → cond b (Decided Answered) (Decided Unlocated) ≡ Decided Answered
-        by true h = refl
-        by false h = ap Decided h
-    steps (suc zero) a = (refl, λ k h. refl)
-    steps (suc (suc n)) a = third (answered_cancels (pass_three m cws) a) (beyond_chips m cws) few
-
     pub former_answered : former_outcome m cws ≡ Answered → AsBefore e m cws
     unfolding former_outcome former_word finding_of own_word
     former_answered a =
-        let now = steps (flagged_chips m cws) a in
+        let now = steps few (flagged_chips m cws) a in
         as_with (former_outcome m cws) (former_word m cws) (now.0 ∙ ap Decided (sym a)) now.1

@@ -5,7 +5,7 @@ use mathlib.Core.List.{List}
 use Prim.Native.Nat.{ℕ, ◌+◌, ◌*◌, ◌^◌, ◌≤◌, ◌<◌, zero-le}
 use native.Mathlib.Omega.{arith}
 use lib.Dec.{ltb}
-use lib.ListN.{length, get_or}
+use lib.ListN.{get_or}
 use Rattle.cells.specs.Chips.{joined, xor_all, count, mask, in_mask, AtPlaces}
 use Rattle.cells.specs.ChipLaws.{joined_ext, bit_lt, mask_lt}
 use Rattle.cells.specs.Cells.{chip_at, codeword}
@@ -16,9 +16,7 @@ use Rattle.line.specs.Found.{may_answer, ChecksAt, ChecksIfAnswered, ChecksUnles
 use Rattle.line.specs.Visit.{finding_of, own_word, own_passes, outcome_by, word_by, row_passes, outcome_of, word_of, if_answered, with_words, written_back, bytes_after, examined_of, report_of}
 use Rattle.line.specs.FindingLaws.{undecided_told}
 use Rattle.line.specs.declared.Examined.{Examined}
-use Rattle.line.specs.declared.Report.{Report}
 use Rattle.line.specs.declared.Outcome.{Outcome}
-use Rattle.line.specs.declared.Outcome.TheVariants.{Answered}
 use Rattle.line.specs.declared.Finding.{Finding}
 use Rattle.line.specs.declared.Finding.TheVariants.{Decided, Undecided}
 

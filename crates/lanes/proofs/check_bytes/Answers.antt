@@ -2,7 +2,7 @@
 use mathlib.Core.Path.{ap₂, ◌∙◌}
 use Prim.Native.Nat.{ℕ}
 use Rattle.lanes.specs.Lanes.{fold_quarters, last_folds, all_folds}
-use Rattle.lanes.proofs.LaneLaws.{all_checks}
+use Rattle.lanes.proofs.LaneChecks.{all_checks}
 use Rattle.lanes.proofs.check_bytes.Goals as goal
 
 pub returns : goal.returns

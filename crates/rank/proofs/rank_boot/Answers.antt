@@ -9,7 +9,6 @@ use Rattle.record.specs.Record.{booted}
 use Rattle.rank.specs.Calls.{Leaves, boot_by}
 use Rattle.refusals.specs.RefusalLaws.{boot_passed}
 use Rattle.rank.specs.CallLaws.{boot_refused, boot_accepted}
-use borrow.Author.Rules.{rules}
 use Rattle.rank.proofs.rank_boot.Goals as goal
 
 pub returns-then-refusal-ne0 : goal.returns-then-refusal-ne0

@@ -5,7 +5,6 @@ use Rattle.rank.specs.declared.Called.{Called}
 use Rattle.rank.specs.Calls.{Leaves, fault_by}
 use Rattle.refusals.specs.RefusalLaws.{fault_passed}
 use Rattle.rank.specs.CallLaws.{fault_refused, fault_accepted}
-use borrow.Author.Rules.{rules}
 use Rattle.rank.proofs.rank_fault.Goals as goal
 
 pub returns-then-refusal-ne0 : goal.returns-then-refusal-ne0

@@ -4,7 +4,6 @@ use Rattle.record.specs.declared.Rank.{Rank}
 use Rattle.rank.specs.Calls.{renew_by}
 use Rattle.refusals.specs.RefusalLaws.{renew_passed}
 use Rattle.rank.specs.CallLaws.{renew_refused, renew_accepted}
-use borrow.Author.Rules.{rules}
 use Rattle.rank.proofs.rank_renew.Goals as goal
 
 pub returns-then-refusal-ne0 : goal.returns-then-refusal-ne0

@@ -9,7 +9,6 @@ use Rattle.rank.specs.Calls.{Leaves, write_by, write_of}
 use Rattle.refusals.specs.Refusals.{write_refusal}
 use Rattle.refusals.specs.RefusalLaws.{write_passed}
 use Rattle.rank.specs.CallLaws.{write_refused, write_accepted, write_returned}
-use borrow.Author.Rules.{rules}
 use Rattle.rank.proofs.rank_write.Goals as goal
 use Rattle.rank.proofs.rank_write.Goals.{then-number-eq0, else-number-eq0}
 

@@ -1,15 +1,10 @@
-use mathlib.Core.Path.{◌≡◌, refl, sym, ap, ◌∙◌}
-use mathlib.Core.Bool.{Bool, true, not}
+use mathlib.Core.Path.{◌≡◌}
+use mathlib.Core.Bool.{Bool, not}
 use mathlib.Core.List.{List}
-use Prim.Native.Nat.{ℕ, zero, suc, ◌-◌, ◌≤◌, zero-le}
-use native.Mathlib.Nat.{le_antisymm, zero-lt-suc}
-use native.Mathlib.Numerals.{add-one}
-use lib.Dec.{eqb, ltb}
+use Prim.Native.Nat.{ℕ, ◌-◌, ◌≤◌}
+use lib.Dec.{eqb}
 use lib.ListN.{get_or}
-use borrow.Author.Tests.{lt-ltb, eq-eqb, eqb-true, not-false}
 use Rattle.cells.specs.Chips.{count}
-use Rattle.cells.specs.ChipLaws.{count_none, count_next}
-use borrow.Author.Rules.{rules}
 use Rattle.refusals.proofs.differs.Given as goal
 
 -- register k is not catch-word k

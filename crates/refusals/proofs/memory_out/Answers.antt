@@ -2,7 +2,6 @@
 use mathlib.Core.Path.{sym}
 use native.Mathlib.Omega.{arith}
 use Rattle.refusals.specs.RefusalLaws.{memory_empty, memory_ragged, memory_lines}
-use borrow.Author.Rules.{rules}
 use Rattle.refusals.proofs.memory_out.Goals as goal
 
 pub returns-then-memory-eq0 : goal.returns-then-memory-eq0

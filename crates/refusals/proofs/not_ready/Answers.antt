@@ -2,7 +2,6 @@
 use mathlib.Core.Path.{sym, ap, ◌∙◌}
 use mathlib.Core.Bool.{Bool, not, ◌||◌, or-true, or-false}
 use Rattle.refusals.specs.Refusals.{not_ready}
-use borrow.Author.Rules.{rules}
 use Rattle.refusals.proofs.not_ready.Goals as goal
 
 pub returns-then-not-is_line_count : goal.returns-then-not-is_line_count

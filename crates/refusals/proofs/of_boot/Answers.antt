@@ -5,7 +5,6 @@ use native.Mathlib.Omega.{arith}
 use lib.ListN.{length}
 use Rattle.refusals.specs.Refusals.{boot_refusal, catch_words_out, memory_out}
 use Rattle.refusals.specs.RefusalLaws.{equal, not_equal}
-use borrow.Author.Rules.{rules}
 use Rattle.refusals.proofs.of_boot.Goals as goal
 
 pub returns-then-memory_out : goal.returns-then-memory_out

@@ -4,7 +4,6 @@ use mathlib.Core.List.{List, [], ◌∷◌, ◌++◌}
 use Prim.Native.Nat.{ℕ}
 use Rattle.refusals.specs.Refusals.{chip_out, fault_refusal, first_of, line_refusals, pattern_out, refused_if}
 use Rattle.refusals.specs.RefusalLaws.{first_more}
-use borrow.Author.Rules.{rules}
 use Rattle.refusals.proofs.of_fault.Goals as goal
 
 pub returns : goal.returns

@@ -2,7 +2,6 @@
 use mathlib.Core.Path.{◌∙◌}
 use Rattle.refusals.specs.Refusals.{state_refusals, line_out}
 use Rattle.refusals.specs.RefusalLaws.{first_more, at_least}
-use borrow.Author.Rules.{rules}
 use Rattle.refusals.proofs.of_line.Goals as goal
 
 pub returns : goal.returns

@@ -5,7 +5,6 @@ use mathlib.Core.List.{List, [], ◌∷◌, ◌++◌}
 use Prim.Native.Nat.{ℕ}
 use Rattle.refusals.specs.Refusals.{first_of, line_out, patrol_refusal, refused_if, state_refusals, task_out}
 use Rattle.refusals.specs.RefusalLaws.{first_more, at_least}
-use borrow.Author.Rules.{rules}
 use Rattle.refusals.proofs.of_patrol.Goals as goal
 
 pub returns : goal.returns

@@ -2,7 +2,6 @@
 use mathlib.Core.Path.{◌∙◌}
 use Rattle.refusals.specs.Refusals.{patrol_refusal, read_tests, visit_refusals}
 use Rattle.refusals.specs.RefusalLaws.{first_more}
-use borrow.Author.Rules.{rules}
 use Rattle.refusals.proofs.of_read.Goals as goal
 
 pub returns : goal.returns

@@ -2,7 +2,6 @@
 use mathlib.Core.Path.{◌≡◌, sym, ◌∙◌}
 use mathlib.Core.Bool.{true, false}
 use Rattle.refusals.specs.Refusals.{chip_out, not_ready, register_differs, renew_refusal}
-use borrow.Author.Rules.{rules}
 use Rattle.refusals.proofs.of_renew.Goals as goal
 
 pub returns-then-not_ready : goal.returns-then-not_ready

@@ -6,7 +6,6 @@ use native.Mathlib.Omega.{arith}
 use lib.ListN.{length}
 use Rattle.refusals.specs.Refusals.{memory_differs, not_ready, register_differs}
 use Rattle.refusals.specs.RefusalLaws.{equal, not_equal}
-use borrow.Author.Rules.{rules}
 use Rattle.refusals.proofs.of_state.Goals as goal
 
 pub returns-then-not_ready : goal.returns-then-not_ready

@@ -2,7 +2,6 @@
 use mathlib.Core.Path.{◌∙◌}
 use Rattle.refusals.specs.Refusals.{line_refusals, write_refusal}
 use Rattle.refusals.specs.RefusalLaws.{first_more}
-use borrow.Author.Rules.{rules}
 use Rattle.refusals.proofs.of_write.Goals as goal
 
 pub returns : goal.returns

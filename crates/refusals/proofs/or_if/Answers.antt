@@ -5,7 +5,6 @@ use mathlib.Core.List.{[], ◌∷◌}
 use Prim.Native.Nat.{ℕ}
 use Rattle.refusals.specs.Refusals.{refused_if, first_of}
 use Rattle.refusals.specs.RefusalLaws.{first_alone, first_came}
-use borrow.Author.Rules.{rules}
 use Rattle.refusals.proofs.or_if.Goals as goal
 
 pub returns-then-before-ne0 : goal.returns-then-before-ne0

@@ -1,5 +1,4 @@
 -- `refusals::register_differs` meets its contract. Assumes nothing.
-use borrow.Author.Rules.{rules}
 use Rattle.refusals.specs.Refusals.{register_differs}
 use Rattle.refusals.proofs.register_differs.Goals as goal
 

@@ -8,7 +8,6 @@ use Rattle.line.specs.Visit.{finding_of, outcome_of, word_of, examined_of}
 use Rattle.memory.specs.Lines.{line_at}
 use Rattle.rows.specs.Rows.{evidence_of, word_in}
 use Rattle.steps.proofs.Deciding.{Ends, ends_decided, ends_diagnosed, left_xor, left_words, left_checks}
-use borrow.Author.Rules.{rules}
 use Rattle.steps.proofs.decide.Goals as goal
 
 -- what was found is what the line's own bytes tell

@@ -1,13 +1,10 @@
 -- `steps::visit` meets its contract. Assumes nothing.
-use mathlib.Core.Path.{◌≡◌, ap, ◌∙◌}
-use mathlib.Core.List.{List}
-use Prim.Native.Nat.{ℕ}
+use mathlib.Core.Path.{ap, ◌∙◌}
 use native.Mathlib.Omega.{arith}
 use Rattle.memory.specs.Lines.{line_at, with_line}
 use Rattle.rows.specs.Rows.{evidence_of, report_in, word_in, bytes_in}
 use Rattle.rows.proofs.RowLaws.{others_few}
 use Rattle.steps.proofs.Deciding.{flagged_fits, checks_masked, few_passes, report_is, bytes_are}
-use borrow.Author.Rules.{rules}
 use Rattle.steps.proofs.visit.Goals as goal
 
 pub decide-decision-requires : goal.decide-decision-requires

@@ -4,7 +4,6 @@ use Prim.Native.Nat.{ℕ}
 use Rattle.line.specs.declared.Report.{Report}
 use Rattle.record.specs.Record.{moved_by}
 use Rattle.visits.specs.Visits.{words_after}
-use borrow.Author.Rules.{rules}
 use Rattle.visits.proofs.visit.Goals as goal
 
 pub returns : goal.returns

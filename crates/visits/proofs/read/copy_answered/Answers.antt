@@ -5,7 +5,6 @@ use Rattle.line.specs.OutcomeLaws.{not_answered}
 use Rattle.line.specs.declared.Outcome.{Outcome}
 use Rattle.cells.specs.Cells.{line_of}
 use Rattle.memory.specs.Lines.{line_at}
-use borrow.Author.Rules.{rules}
 use Rattle.visits.proofs.read.copy_answered.Goals as goal
 
 pub returns-in_default : goal.returns-in_default

@@ -1,5 +1,5 @@
 -- `visits::read::visit_into` meets its contract. Assumes nothing.
-use mathlib.Core.Path.{◌≡◌, sym, ap, ◌∙◌}
+use mathlib.Core.Path.{sym, ap, ◌∙◌}
 use Prim.Native.Nat.{ℕ, ◌+◌, ◌*◌, ◌≤◌}
 use lib.ListN.{length}
 use native.Mathlib.Omega.{arith}
@@ -7,7 +7,6 @@ use Rattle.words.specs.Bytes.{Bytes}
 use Rattle.visits.specs.Visits.{visited_of}
 use Rattle.visits.specs.VisitLaws.{length_visited}
 use Rattle.visits.specs.ReadLaws.{visited_buffer, clean_visited, clean_words, clean_kept, clean_buffer}
-use borrow.Author.Rules.{rules}
 use Rattle.visits.proofs.read.visit_into.Goals as goal
 
 pub is_clean-requires : goal.is_clean-requires

@@ -1,25 +1,9 @@
-use mathlib.Core.Path.{◌≡◌, sym, ap, ◌∙◌}
-use mathlib.Core.Bool.{true}
 use mathlib.Core.List.{List}
-use mathlib.Core.Logic.{⊎_elim}
-use Prim.Native.Nat.{ℕ, ◌+◌, ◌-◌, ◌≤◌}
-use lib.ListN.{length, get_or}
-use mir.Syntax.{w32}
-use mir.Val.{Fits}
-use native.Mathlib.Omega.{arith}
-use Rattle.line.specs.declared.Report.{Report}
-use Rattle.record.specs.declared.Rank.{Rank}
-use Rattle.record.specs.Record.{total_limit, accepted, counted_by}
-use Rattle.record.specs.RecordLaws.{accepted_same}
-use Rattle.memory.specs.LineLaws.{length_line_at}
+use Prim.Native.Nat.{ℕ, ◌-◌}
+use Rattle.record.specs.Record.{accepted}
 use Rattle.visits.specs.declared.sweep.Counts.{Counts}
 use Rattle.visits.specs.declared.sweep.Tally.{Tally}
-use Rattle.visits.specs.Runs.{outs, end}
-use Rattle.code.specs.Lists.{up_from}
-use Rattle.visits.specs.Visits.{device, visit_of, refused_by, rewritten_by, refused_in, rewritten_in}
-use Rattle.visits.specs.SweepLaws.{Swept, swept_none, Moves, parts_visited, moves_clean, visit_flags, swept_more, all_refused, all_rewritten_lem, all_ended}
-use borrow.Author.Rules.{rules}
-use borrow.Author.Tests.{not-false}
+use Rattle.visits.specs.SweepLaws.{Swept}
 use Rattle.visits.proofs.sweep.sweep.Given as goal
 
 -- what the loop has, as one

@@ -6,7 +6,6 @@ use native.Mathlib.Nat.{add-zero}
 use Rattle.line.specs.OutcomeLaws.{not_answered}
 use Rattle.line.specs.declared.Outcome.{Outcome}
 use Rattle.visits.specs.Visits.{refused_by, rewritten_by}
-use borrow.Author.Rules.{rules}
 use Rattle.visits.proofs.sweep.with_visit.Goals as goal
 
 pub returns-in_default : goal.returns-in_default
