@@ -1,7 +1,7 @@
 -- Laws of how large the numbers are that are printed: a refusal has at most two decimal digits, the passes three and a mask three hexadecimal
 -- digits, so that `decimal_text` and `hex_text` print them whole. The first word has sixteen, as a number of 64 bits.
 -- Assumes nothing.
-use Rattle.std.specs.Prelude.{◌≡◌, Bool, true, false, List, [], ◌∷◌, ◌++◌, ℕ, zero, suc, ◌+◌, ◌<◌}
+use Rattle.std.specs.Prelude.{◌≡◌, Bool, true, false, List, [], ◌∷◌, ◌++◌, ℕ, zero, suc, ◌<◌}
 use Rattle.std.proofs.Common.{arith, lit<}
 use Rattle.code.specs.Lists.{Every}
 use Rattle.cells.specs.Chips.{mask}

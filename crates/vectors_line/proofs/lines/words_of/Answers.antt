@@ -1,9 +1,8 @@
 -- `vectors_line::lines::words_of` is safe and ends. Assumes nothing.
-use mathlib.Core.Path.{◌≡◌, refl}
-use Prim.Native.Nat.{◌-◌, ◌≤◌, zero-le}
+use mathlib.Core.Path.{refl}
+use Prim.Native.Nat.{zero-le}
 use native.Mathlib.Omega.{arith}
-use lib.ListN.{length, length-set}
-use borrow.Author.Rules.{rules}
+use lib.ListN.{length-set}
 use Rattle.vectors_line.proofs.lines.words_of.Goals as goal
 
 pub loop-k-preserved : goal.loop-k-preserved
