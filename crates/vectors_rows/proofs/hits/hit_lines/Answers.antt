@@ -1,8 +1,5 @@
 -- `vectors_rows::hits::hit_lines` is safe and ends. Assumes nothing.
-use mathlib.Core.Path.{◌≡◌, refl}
-use Prim.Native.Nat.{◌-◌}
-use lib.ListN.{length}
-use borrow.Author.Rules.{rules}
+use mathlib.Core.Path.{refl}
 use Rattle.vectors_rows.proofs.hits.hit_lines.Goals as goal
 
 pub loop-line-init : goal.loop-line-init
