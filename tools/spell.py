@@ -16,7 +16,7 @@ import sys
 FIRST = ("allTyped", "bytesAfter", "foundAfter", "heldWord", "premiseHolds")
 
 WORD = r"[^\s(){}.;,@\"«»`\[\]\\]+"
-DECLARED = re.compile(r"^[ ]*(?:(?:abbrev|unfoldable|pub)[ ]+)*(%s)[ ]+:[ ]+(\S*)" % WORD, re.M)
+DECLARED = re.compile(r"^[ ]*(?:(?:abbrev|unfoldable|pub)[ ]+)*(%s)[ ]+:(?:[ ]+(\S*)|$)" % WORD, re.M)
 LOCAL = re.compile(r"\blet (%s)[ ]+[:=] " % WORD)
 USE = re.compile(r"^\s*(?:ghost )?(?:pub )?use ([^\s{;]+)\.\{([^}]*)\}", re.M)
 TOKEN = re.compile(r"(?<![^\s(){}.;,@\"«»`\[\]\\])%s" % WORD)
@@ -65,7 +65,7 @@ def table(root):
         text = code_of(read(path), "--")
         for m in DECLARED.finditer(text):
             # an answer's name in a file of proofs/F/ is Rattle's
-            if m.group(2).startswith("tie.") or m.group(1).startswith("use "):
+            if (m.group(2) or "").startswith("tie.") or m.group(1).startswith("use "):
                 continue
             declared.add(m.group(1))
         declared.update(LOCAL.findall(text))

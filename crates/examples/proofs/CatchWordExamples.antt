@@ -44,7 +44,7 @@ collision_calls = fault 0 3 wide_pattern ∷ read 1 0 buffer ∷ read 1 0 buffer
 -- what the calls report in each run, of a read passes, flagged mask and collision mask, and what of it is claimed to be the same. In the
 -- first run chip 3 is flagged by the first read while the other eight collide, and once it is repaired, it collides itself and costs the
 -- second read another pass
-pub collision-shown :
+pub collision_shown :
     (outs (device_reports passes_and_masks) (device zero_words memory) collision_calls
     ≡ [] ∷ (2 ∷ 0x008 ∷ 0x1f7 ∷ []) ∷ (2 ∷ 0 ∷ 0x008 ∷ []) ∷ [] ∷ (1 ∷ 0 ∷ 1 ∷ []) ∷ [])
     × (outs (device_reports passes_and_masks) (device eleven_words memory) collision_calls
@@ -58,7 +58,7 @@ unfolding booted device_reports reported_by device_call patrol_of patrol_by patr
     own_passes outcome_by word_by row_passes outcome_of word_of report_in bytes_in with_words written_back bytes_after report_of refusal_of count of_chips
     joined xor_all mask in_mask number_of bytes_of bytes_from chip_at word_at check_at cell_at codeword with_chip is_codeword syndrome_of remainder
     remainder_in times_x check_of ones ones_in
-collision-shown = (refl, refl, refl)
+collision_shown = (refl, refl, refl)
 
 -- what is claimed to be the same is so in these two runs
 pub collision_same : SameInBoth zero_words eleven_words memory collision_calls
