@@ -1,14 +1,8 @@
 -- Laws of what is added to a line's check bytes (document 02, Req 06): the words stay, what is put on is taken off again, and stored codewords
 -- are codewords without it.
 -- Assumes nothing.
-use Rattle.std.specs.Prelude.{◌≡◌, ℕ, ◌+◌, ◌*◌, ◌<◌, T, eqb, length, get_or, take, drop}
-use Rattle.std.proofs.Math.Path.{refl, sym, ap, ap₂}
-use Rattle.std.proofs.Common.{◌∙◌, arith, take_at, drop_at}
-use mathlib.Core.List.{List, [], ◌∷◌, ◌++◌}
-use Rattle.std.proofs.Math.Nat.{zero-add}
+use Rattle.std.proofs.Common.{◌≡◌, ℕ, ◌+◌, ◌*◌, ◌<◌, T, eqb, length, get_or, take, drop, refl, sym, ap, ap₂, ◌∙◌, arith, take_at, drop_at, List, [], ◌∷◌, ◌++◌, zero-add, lit<, replicate, length-append}
 use Rattle.std.specs.Int.Bits.{bit_xor, xor_self}
-use Rattle.std.proofs.Math.Dec.{lit<}
-use Rattle.std.proofs.Math.ListN.{replicate, length-append}
 use Rattle.code.specs.Code.{check_of, stored_check, without_added}
 use Rattle.code.proofs.StoredLaws.{stored_lt}
 use Rattle.code.specs.TestLaws.{each, each_equal}

@@ -1,9 +1,9 @@
 -- Laws of what functions and tests give over the chips of a line, and of masks.
 -- Assumes nothing.
-use Rattle.std.specs.Prelude.{◌≡◌, refl, Bool, true, false, not, ◌&&◌, cond, List, [], ◌∷◌, ◌++◌, ℕ, zero, suc, ◌+◌, ◌-◌, ◌*◌, ◌/◌, ◌%◌, ◌^◌, ◌≤◌, ◌<◌, length, get_or, take, eqb}
-use Rattle.std.proofs.Common.{sym, ap, ap₂, ◌∙◌, subst, ⊎_elim, zero-le, pow-suc, mul_comm, mul_assoc, eq-or-lt_of_le, sub-add_cancel, zero-mul, add-zero, add_comm, le_of_suc-le-suc, not-suc-le-zero, zero-lt-suc, add-one, arith, pow_pos, pow-add, length-append, take-suc, take_all, eq-eqb, ne_eqb, eqb-true}
+use Rattle.std.proofs.Common.{◌≡◌, refl, Bool, true, false, not, ◌&&◌, cond, List, [], ◌∷◌, ◌++◌, ℕ, zero, suc, ◌+◌, ◌-◌, ◌*◌, ◌/◌, ◌%◌, ◌^◌, ◌≤◌, ◌<◌, length, get_or, take, eqb, sym, ap, ap₂, ◌∙◌, subst, ⊎_elim, zero-le, pow-suc, mul_comm, mul_assoc, eq-or-lt_of_le, sub-add_cancel, zero-mul, add-zero, add_comm, le_of_suc-le-suc, not-suc-le-zero, zero-lt-suc, add-one, arith, pow_pos, pow-add, length-append, take-suc, take_all, eq-eqb, ne_eqb, eqb-true}
 use Rattle.std.proofs.Math.Nat.{add-mul-div_right, mul-add-mod_self_right}
 use Rattle.std.proofs.Math.Arith.{digits_lt}
+use Rattle.std.proofs.Math.ListN.{get_or-append}
 use Rattle.std.proofs.Math.Pow.{high}
 use Rattle.std.specs.Int.Bits.{bit_and, bit_xor, xor_zero_r}
 use Rattle.std.proofs.lemmas.Nat.{and_block, xor_block, xor_lt, ones_cat}
@@ -24,12 +24,6 @@ unfolding of_chips
 length_of_chips f zero = refl
 length_of_chips f (suc n) = length-append (of_chips f n) (f n ∷ []) ∙ ap (λ (x : ℕ). x + 1) (length_of_chips f n) ∙ add-one n
 
--- the first list's elements stand in two lists, one after the other, where they stood
-get_d_first : (xs ys : List ℕ) (k : ℕ) → k < length xs → get_or (xs ++ ys) k 0 ≡ get_or xs k 0
-get_d_first [] ys k h = absurd (not-suc-le-zero h)
-get_d_first (x ∷ xs) ys zero h = refl
-get_d_first (x ∷ xs) ys (suc k) h = get_d_first xs ys k (le_of_suc-le-suc h)
-
 -- f of chip k stands at its place
 pub get_d_of_chips : (f : ℕ → ℕ) (n k : ℕ) → k < n → get_or (of_chips f n) k 0 ≡ f k
 unfolding of_chips
@@ -37,7 +31,7 @@ get_d_of_chips f zero k h = absurd (not-suc-le-zero h)
 get_d_of_chips f (suc n) k h =
     last h
     (λ (e : k ≡ n). ap (λ (i : ℕ). get_or (of_chips f n ++ (f n ∷ [])) i 0) e ∙ get_or_at (of_chips f n) (f n) [] 0 n (length_of_chips f n) ∙ ap f (sym e))
-    (λ (l : k < n). get_d_first (of_chips f n) (f n ∷ []) k (omega (arith, length_of_chips f n)) ∙ get_d_of_chips f n k l)
+    (λ (l : k < n). get_or-append (of_chips f n) (f n ∷ []) 0 k (omega (arith, length_of_chips f n)) ∙ get_d_of_chips f n k l)
 
 -- ---- what agrees at each chip agrees
 

@@ -1,11 +1,11 @@
 -- Laws of masks that are put together, and of a mask's lowest chip.
 -- Assumes nothing.
-use Rattle.std.specs.Prelude.{◌≡◌, refl, Bool, true, false, not, ◌&&◌, ◌||◌, ℕ, zero, suc, ◌+◌, ◌-◌, ◌*◌, ◌^◌, ◌<◌, T, eqb, ltb}
-use Rattle.std.proofs.Common.{sym, ap, ap₂, ◌∙◌, zero-mul, add-zero, not-suc-le-zero, arith, ltb→lt, eq-eqb, ne_eqb}
-use Rattle.std.specs.Int.Bits.{bit_and, bit_or}
-use Rattle.std.proofs.lemmas.Nat.{or_block}
-use Rattle.std.specs.Int.Count.{ones, ones_in, count_trailing_zeros}
-use Rattle.code.specs.TestLaws.{each, each_at, each_equal, each_below}
+use Rattle.std.specs.Prelude.{◌≡◌, refl, Bool, true, false, not, ◌&&◌, ◌||◌, ℕ, zero, suc, ◌+◌, ◌-◌, ◌*◌, ◌/◌, ◌%◌, ◌^◌, ◌<◌, T, eqb, ltb}
+use Rattle.std.proofs.Common.{sym, ap, ap₂, ◌∙◌, zero-mul, add-zero, not-suc-le-zero, arith, lit<, pow-suc, ltb→lt, eq-eqb, ne_eqb}
+use Rattle.std.specs.Int.Bits.{bit_and, bit_or, and_self}
+use Rattle.std.proofs.lemmas.Nat.{and_block, or_block}
+use Rattle.std.specs.Int.Count.{ones, ones_in, count_trailing_zeros, under}
+use Rattle.code.specs.TestLaws.{each, each_at, each_below}
 use Rattle.cells.specs.Chips.{bit, mask, in_mask}
 use Rattle.cells.specs.ChipLaws.{last, mask_lt, in_mask_lem, mask_zero}
 
@@ -83,10 +83,6 @@ member_test : T (each (λ n. agree (in_mask (suc n) (lowest_of n)) true) 511)
 unfolding count_trailing_zeros in_mask
 member_test = tt
 
-rest_test : T (each (λ n. eqb (bit_and (suc n) n) (suc n - 2 ^ lowest_of n)) 511)
-unfolding count_trailing_zeros
-rest_test = tt
-
 without_test : T (each (λ n. each (λ i. agree (in_mask (suc n - 2 ^ lowest_of n) i) (in_mask (suc n) i && not (eqb i (lowest_of n)))) 9) 511)
 unfolding count_trailing_zeros in_mask
 without_test = tt
@@ -95,13 +91,32 @@ less_test : T (each (λ n. ltb (suc n - 2 ^ lowest_of n) (suc n)) 511)
 unfolding count_trailing_zeros
 less_test = tt
 
--- as the code takes it off
+-- as the code takes it off a number of k bits
+pub off_lowest : (k m : ℕ) → 0 < m → m < 2 ^ k → bit_and m (m - 1) ≡ m - 2 ^ count_trailing_zeros k m
+unfolding count_trailing_zeros
+off_lowest zero m h l = absurd (omega arith)
+off_lowest (suc k) m h l = by (m % 2) refl (off_lowest k (m / 2))
+  where
+    by : (d : ℕ) → m % 2 ≡ d
+        → (0 < m / 2 → m / 2 < 2 ^ k → bit_and (m / 2) (m / 2 - 1) ≡ m / 2 - 2 ^ count_trailing_zeros k (m / 2))
+        → bit_and m (m - 1) ≡ m - 2 ^ under d (count_trailing_zeros k (m / 2))
+    by zero even half =
+        let rest = half (omega arith) (omega (arith, pow-suc 2 k)) in
+        let t : ℕ = count_trailing_zeros k (m / 2) in
+        let whole : m ≡ m / 2 * 2 ^ 1 + 0 = omega arith in
+        let less : m - 1 ≡ (m / 2 - 1) * 2 ^ 1 + 1 = omega arith in
+        ap₂ bit_and whole less
+        ∙ and_block 1 (m / 2) (m / 2 - 1) 0 1 (lit< tt) (lit< tt)
+        ∙ omega (arith, rest, pow-suc 2 t)
+    by (suc d) odd half =
+        let whole : m ≡ m / 2 * 2 ^ 1 + 1 = omega arith in
+        let less : m - 1 ≡ m / 2 * 2 ^ 1 + 0 = omega arith in
+        ap₂ bit_and whole less
+        ∙ and_block 1 (m / 2) (m / 2) 1 0 (lit< tt) (lit< tt)
+        ∙ omega (arith, and_self (m / 2))
+
 pub without_lowest : (m : ℕ) → 0 < m → m < 2 ^ 9 → bit_and m (m - 1) ≡ m - 2 ^ count_trailing_zeros 32 m
-without_lowest zero h l = absurd (not-suc-le-zero h)
-without_lowest (suc n) h l =
-    let i : n < 511 = omega arith in
-    let one : suc n - 1 ≡ n = omega arith in
-    ap (bit_and (suc n)) one ∙ each_equal (λ n. bit_and (suc n) n) (λ n. suc n - 2 ^ lowest_of n) 511 rest_test n i
+without_lowest m h l = off_lowest 32 m h (omega arith)
 
 pub lowest_chip : (m : ℕ) → 0 < m → m < 2 ^ 9 → TakenOff m (count_trailing_zeros 32 m) (m - 2 ^ count_trailing_zeros 32 m)
 lowest_chip zero h l = absurd (not-suc-le-zero h)

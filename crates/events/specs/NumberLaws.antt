@@ -1,8 +1,9 @@
 -- Laws of the numbers of a script.
 -- Assumes nothing.
-use Rattle.std.specs.Prelude.{◌≡◌, refl, Bool, true, false, ◌&&◌, eqb, ltb, leb, length, get_or, take, drop}
-use Rattle.std.proofs.Common.{sym, ap₂, ◌∙◌, subst, lt_of_lt_of_le, mul-le-mul, mul-le-mul_right, mul_assoc, mul_comm, pow-suc, add-one, arith, lit<, lit≤, take-append-drop, length-drop, drop_of_length-le, length-take-le, drop-cons, ltb-true, lt-ltb, le-ltb, leb-true, eqb-true, eq-eqb}
+use Rattle.std.specs.Prelude.{◌≡◌, refl, Bool, true, false, ◌&&◌, eqb, ltb, leb, length, get_or, take, drop, Option, Some, None}
+use Rattle.std.proofs.Common.{sym, ap₂, ◌∙◌, subst, lt_of_lt_of_le, mul-le-mul, mul-le-mul_right, mul_assoc, mul_comm, pow-suc, add-one, arith, lit<, lit≤, take-append-drop, length-drop, drop_of_length-le, length-take-le, drop-cons, ltb-true, ltb-false, lt-ltb, le-ltb, leb-true, eqb-true, eq-eqb}
 use Rattle.std.proofs.Math.Path.{ap}
+use Rattle.std.proofs.lemmas.Option.{same_Some}
 use Rattle.std.proofs.Math.Bool.{and_assoc}
 use mathlib.Core.List.{List, [], ◌∷◌, ◌++◌}
 use Prim.Native.Nat.{ℕ, suc, ◌+◌, ◌-◌, ◌*◌, ◌^◌, ◌≤◌, ◌<◌, zero-le}
@@ -11,8 +12,6 @@ use Rattle.code.specs.TestLaws.{and_first, and_second}
 use Rattle.events.specs.Places.{index_of, index_after}
 use Rattle.events.specs.Fields.{space}
 use Rattle.events.specs.Numbers.{digit_of, is_numeral, value_from, value_of, is_decimal, is_hex, number_if}
-use Rattle.events.specs.declared.numbers.Number.{Number}
-use Rattle.events.specs.declared.numbers.Number.TheVariants as number
 
 -- ---- digits in two parts
 
@@ -93,10 +92,25 @@ module _ {base : ℕ} {s : List ℕ} {v i d : ℕ} (h : Reached base s v i) (l :
         lt_of_lt_of_le more_small (pow-le-pow_right (lit< tt) room)
 
   -- a byte that is no digit makes the whole no numeral
-  pub reached_stop : base ≤ d → number.Malformed ≡ number_if (is_numeral base s) (value_of base s)
+  pub reached_stop : base ≤ d → None ≡ number_if (is_numeral base s) (value_of base s)
   reached_stop g = sym (next (le-ltb d base g))
 
-pub reached_all : {base : ℕ} {s : List ℕ} {v i : ℕ} → Reached base s v i → length s ≤ i → number.Is v ≡ number_if (is_numeral base s)
+-- what a byte was found to be: a digit x below the base, or none
+pub digit_found : (x base : ℕ) {d : ℕ} → Some d ≡ number_if (ltb x base) x → (d ≡ x) × (d < base)
+digit_found x base e = by (ltb x base) refl e
+  where
+    by : {d : ℕ} (t : Bool) → ltb x base ≡ t → Some d ≡ number_if t x → (d ≡ x) × (d < base)
+    by true e f = (cc, let g = ltb-true x base e in omega (arith, same_Some _ _ f))
+    by false e f = cc
+
+pub no_digit_found : (x base : ℕ) → None ≡ number_if (ltb x base) x → base ≤ x
+no_digit_found x base e = by (ltb x base) refl e
+  where
+    by : (t : Bool) → ltb x base ≡ t → None ≡ number_if t x → base ≤ x
+    by true e f = cc
+    by false e f = ltb-false x base e
+
+pub reached_all : {base : ℕ} {s : List ℕ} {v i : ℕ} → Reached base s v i → length s ≤ i → Some v ≡ number_if (is_numeral base s)
     (value_of base s)
 unfolding is_numeral value_from
 reached_all {base} {s} {v} {i} h l = sym (h.rest ∙ rw (drop_of_length-le s l))
@@ -109,12 +123,12 @@ pub record Found (t : Bool) (v x bound : ℕ) : Type 0 where
   pub value : v ≡ x
   pub small : x < bound
 
-found : {r : Number} (t : Bool) (v bound : ℕ) {x : ℕ} → (t ≡ true → v < bound) → r ≡ number_if t v → r ≡ number.Is x → Found t v x bound
+found : {r : Option ℕ} (t : Bool) (v bound : ℕ) {x : ℕ} → (t ≡ true → v < bound) → r ≡ number_if t v → r ≡ Some x → Found t v x bound
 found true v bound {x} h e f = let g : v ≡ x = cc in record { test = refl; value = g; small = subst (λ (n : ℕ). n < bound) g (h refl) }
-found false v bound {x} h e f = let z : ◌≡◌ {A = ℕ} 0 1 = cc in absurd (omega arith)
+found false v bound {x} h e f = cc
 
-pub not_found : {r : Number} (t : Bool) (v : ℕ) → r ≡ number_if t v → r ≡ number.Malformed → t ≡ false
-not_found true v e f = let z : ◌≡◌ {A = ℕ} 0 1 = cc in absurd (omega arith)
+pub not_found : {r : Option ℕ} (t : Bool) (v : ℕ) → r ≡ number_if t v → r ≡ None → t ≡ false
+not_found true v e f = cc
 not_found false v e f = refl
 
 pub decimal_length : (s : List ℕ) → is_decimal s ≡ true → length s ≤ 9
@@ -126,19 +140,25 @@ unfolding is_decimal
 decimal_numeral s t = and_second (leb 1 (length s) && leb (length s) 9) _ t
 
 -- nine decimal digits fit 32 bits
-decimal_lt : (s : List ℕ) → is_decimal s ≡ true → value_of 10 s < 2 ^ 32
+nine_lt : (s : List ℕ) → length s ≤ 9 → is_numeral 10 s ≡ true → value_of 10 s < 2 ^ 32
 unfolding value_of
-decimal_lt s t =
-    let small : value_of 10 s < 1 * 10 ^ length s = value_lt 10 0 s (decimal_numeral s t) in
-    let most : 10 ^ length s ≤ 10 ^ 9 = pow-le-pow_right (lit< tt) (decimal_length s t) in
+nine_lt s n t =
+    let small : value_of 10 s < 1 * 10 ^ length s = value_lt 10 0 s t in
+    let most : 10 ^ length s ≤ 10 ^ 9 = pow-le-pow_right (lit< tt) n in
     omega arith
 
-pub found_decimal : {r : Number} (s : List ℕ) {x : ℕ} → r ≡ number_if (is_decimal s) (value_of 10 s) → r ≡ number.Is x → Found (is_decimal s)
+pub numeral_small : (s : List ℕ) {x : ℕ} → length s ≤ 9 → Some x ≡ number_if (is_numeral 10 s) (value_of 10 s) → x < 2 ^ 32
+numeral_small s n e = (found (is_numeral 10 s) (value_of 10 s) (2 ^ 32) (nine_lt s n) e refl).small
+
+decimal_lt : (s : List ℕ) → is_decimal s ≡ true → value_of 10 s < 2 ^ 32
+decimal_lt s t = nine_lt s (decimal_length s t) (decimal_numeral s t)
+
+pub found_decimal : {r : Option ℕ} (s : List ℕ) {x : ℕ} → r ≡ number_if (is_decimal s) (value_of 10 s) → r ≡ Some x → Found (is_decimal s)
     (value_of 10 s) x (2 ^ 32)
 found_decimal s = found (is_decimal s) (value_of 10 s) (2 ^ 32) (decimal_lt s)
 
 -- n hexadecimal digits are below 16 ^ n
-pub found_hex : {r : Number} (n : ℕ) (s : List ℕ) {x : ℕ} → r ≡ number_if (is_hex n s) (value_of 16 s) → r ≡ number.Is x → Found (is_hex n s)
+pub found_hex : {r : Option ℕ} (n : ℕ) (s : List ℕ) {x : ℕ} → r ≡ number_if (is_hex n s) (value_of 16 s) → r ≡ Some x → Found (is_hex n s)
     (value_of 16 s) x (16 ^ n)
 unfolding is_hex value_of
 found_hex n s =
@@ -147,6 +167,9 @@ found_hex n s =
     let small : value_of 16 s < 1 * 16 ^ length s = value_lt 16 0 s (and_second (eqb (length s) n) _ t) in
     let size : length s ≡ n = eqb-true (length s) n (and_first (eqb (length s) n) _ t) in
     subst (λ (k : ℕ). value_of 16 s < 16 ^ k) size (omega arith))
+
+pub two_hex_small : (s : List ℕ) {x : ℕ} → Some x ≡ number_if (is_hex 2 s) (value_of 16 s) → x < 2 ^ 8
+two_hex_small s e = (found_hex 2 s e refl).small
 
 -- ---- a field with a space in it is no number
 

@@ -1,12 +1,8 @@
 -- Document 01, "Bench examples", program `bench`: numbers of a script. s stands for a field's bytes.
 -- Definitions alone; what holds of them is in `NumberLaws`.
-use Rattle.std.specs.Prelude.{ℕ, ◌+◌, ◌-◌, ◌*◌, Bool, true, ◌&&◌, cond, List, [], ◌∷◌, eqb, leb, ltb, length, take}
+use Rattle.std.specs.Prelude.{ℕ, ◌+◌, ◌-◌, ◌*◌, Bool, true, ◌&&◌, cond, List, [], ◌∷◌, eqb, leb, ltb, length, take, drop, Option, Some, None}
 use Rattle.events.specs.Places.{index_of}
 use Rattle.events.specs.Fields.{space}
-use Rattle.events.specs.declared.numbers.Number.{Number}
-use Rattle.events.specs.declared.numbers.Number.TheVariants as number
-use Rattle.events.specs.declared.numbers.Leading.{Leading}
-use Rattle.events.specs.declared.numbers.Leading.TheVariants as leading
 
 -- the digit of a byte: 30h to 39h are 0 to 9, 61h to 66h (lower case) are 10 to 15; any other byte is no digit, here 16
 unfoldable pub digit_of : ℕ → ℕ
@@ -34,12 +30,12 @@ unfoldable pub is_hex : ℕ → List ℕ → Bool
 is_hex n s = eqb (length s) n && is_numeral 16 s
 
 -- the number of a field where a test holds
-abbrev pub number_if : Bool → ℕ → Number
-number_if t v = cond t (number.Is v) number.Malformed
+abbrev pub number_if : Bool → ℕ → Option ℕ
+number_if t v = cond t (Some v) None
 
--- the number of a decimal field in front of others, which ends at place e, and the place behind the space there
-unfoldable pub leading_to : ℕ → List ℕ → Leading
-leading_to e s = cond (ltb e (length s) && is_decimal (take e s)) (leading.Number (value_of 10 (take e s)) (e + 1)) leading.Malformed
+-- the number of a decimal field in front of others, which ends at place e, and what stands behind the space there
+unfoldable pub leading_to : ℕ → List ℕ → Option (ℕ × List ℕ)
+leading_to e s = cond (ltb e (length s) && is_decimal (take e s)) (Some (value_of 10 (take e s), drop (e + 1) s)) None
 
-unfoldable pub leading_number : List ℕ → Leading
+unfoldable pub leading_number : List ℕ → Option (ℕ × List ℕ)
 leading_number s = leading_to (index_of space s) s

@@ -1,20 +1,20 @@
-// The place of a byte among others.
-ghost use Rattle.std.specs.Prelude.{◌≡◌, ◌+◌, ◌≤◌, length};
-ghost use Rattle.events.specs.Places.{index_of, slice};
+// The place of a byte among others, and what stands before and behind it.
+ghost use Rattle.std.specs.Prelude.{◌≡◌, ◌<◌, length, MatchOption};
+ghost use Rattle.events.specs.Places.{index_of, Cut};
 
-// The place of the first byte of a value from one place up to another, or that other where there is none.
-pub fn find(bytes: &[u8], from: usize, to: usize, byte: u8) -> usize
-    requires ordered { from ≤ to }
-    requires inside { to ≤ length bytes.now }
-    ensures place { result ≡ from + index_of byte (slice from to bytes.now) }
-    ensures within { result ≤ to }
+// The place of the first byte of a value, if there is one.
+pub fn find(bytes: &[u8], byte: u8) -> Option<usize>
+    ensures { MatchOption result (index_of byte bytes.now ≡ length bytes.now)
+        (λ place. (place ≡ index_of byte bytes.now) × (place < length bytes.now)) }
 {
-    let mut i = from;
-    while i < to {
-        if bytes[i] == byte {
-            return i;
-        }
-        i += 1;
-    }
-    to
+    bytes.iter().position(|b| *b == byte)
+}
+
+// What stands before the first byte of a value and what stands behind it, if there is one.
+pub fn split_once(bytes: &[u8], byte: u8) -> Option<(&[u8], &[u8])>
+    ensures { MatchOption result (index_of byte bytes.now ≡ length bytes.now)
+        (λ parts. Cut byte bytes.now parts.0.now parts.1.now) }
+{
+    let place = find(bytes, byte)?;
+    Some((&bytes[..place], &bytes[place + 1..]))
 }

@@ -1,7 +1,7 @@
 -- Document 01, "Bench examples": the cases marked P, every column as a number.
 -- c stands for a case.
 -- Definitions alone.
-use Rattle.std.specs.Prelude.{◌≡◌, List, [], ◌∷◌, map, ℕ}
+use Rattle.std.specs.Prelude.{◌≡◌, Option, unwrap_or, List, [], ◌∷◌, map, ℕ}
 use Rattle.code.specs.Code.{cell, syndrome_of, check_of, position_of, mended, mended_word}
 use Rattle.code.specs.Lists.{Every}
 
@@ -47,6 +47,10 @@ cases =
 -- a row of the table: the columns of a case in this order
 abbrev pub columns : Case → List ℕ
 columns c = c.word ∷ c.check ∷ c.given ∷ c.syndrome ∷ c.position ∷ c.mended_to ∷ []
+
+-- A row as the code has it, in numbers: 255 stands for no position, as in `position_of`.
+abbrev pub numbers : ℕ × ℕ × ℕ × ℕ × Option ℕ × ℕ → List ℕ
+numbers row = row.0 ∷ row.1 ∷ row.2 ∷ row.3 ∷ unwrap_or row.4 255 ∷ row.5 ∷ []
 
 -- What a case says of the code:
 -- each pair is equal.

@@ -1,6 +1,7 @@
 pub mod Blame
 pub mod Visit
 pub mod Found
+pub mod FirstTwo
 pub mod Damage
 pub mod FormerVisit
 pub mod ClosedForm

@@ -1,24 +1,29 @@
 -- A line's 81 bytes, lent as a part of the memory and put back. Assumes nothing.
-use mathlib.Core.Path.{◌≡◌, sym, ap, ap₂, ◌∙◌}
+use mathlib.Core.Path.{◌≡◌, sym, ap, ◌∙◌}
 use mathlib.Core.List.{List, ◌++◌, append_assoc}
 use Prim.Native.Nat.{ℕ, ◌+◌, ◌*◌, ◌≤◌}
 use native.Mathlib.Omega.{arith}
 use lib.ListN.{length, take, drop}
 use lib.Seq.{sets-eq, drop-drop}
+use Rattle.std.specs.Array.{IsWholeChunk}
 use Rattle.words.specs.Bytes.{bytes_from}
 use Rattle.memory.specs.Lines.{line_at, with_line}
 
-module _ (m : List ℕ) (l k : ℕ) (width : k ≡ 81) (fits : 81 * l + 81 ≤ length m) where
+-- b is the memory m from place i on, where line l begins
+module _ (m : List ℕ) (l : ℕ) {i : ℕ} {b : List ℕ} (start : i ≡ 81 * l) (behind : b ≡ drop i m) where
   -- what is lent
-  pub lent : take k (drop (81 * l) m) ≡ line_at m l
+  pub lent : {x y : List ℕ} → y ≡ take 81 b → IsWholeChunk y x 81 → x ≡ line_at m l
   unfolding line_at bytes_from
-  lent = ap (λ (i : ℕ). take i (drop (81 * l) m)) width
+  lent part whole = whole.same ∙ part ∙ (λ j. take 81 (behind j)) ∙ ap (λ (n : ℕ). take 81 (drop n m)) start
 
-  -- what is put back
-  pub put_back : (x y : List ℕ) → x ≡ y → length y ≡ 81 → take (81 * l) m ++ (x ++ drop k (drop (81 * l) m)) ≡ with_line m l y
+  -- what is put back, between the bytes before the line and those after it
+  pub put_back : {a d y z : List ℕ} → 81 * l + 81 ≤ length m → a ≡ take i m → d ≡ drop 81 b → y ≡ z → length z ≡ 81 → a ++ (y ++ d) ≡ with_line m l z
   unfolding with_line
-  put_back x y e size =
-      ap₂ (λ (z : List ℕ) (i : ℕ). take (81 * l) m ++ (z ++ drop i (drop (81 * l) m))) e (width ∙ sym size)
-      ∙ ap (λ (z : List ℕ). take (81 * l) m ++ (y ++ z)) (drop-drop (length y) (81 * l) m)
-      ∙ sym (append_assoc (take (81 * l) m) y (drop (81 * l + length y) m))
-      ∙ sym (sets-eq y m (81 * l) (omega arith))
+  put_back {z = z} fits before after left size =
+      (λ j. before j ++ (left j ++ after j))
+      ∙ (λ j. take i m ++ (z ++ drop 81 (behind j)))
+      ∙ ap (λ (n : ℕ). take i m ++ (z ++ drop n (drop i m))) (sym size)
+      ∙ ap (λ (x : List ℕ). take i m ++ (z ++ x)) (drop-drop (length z) i m)
+      ∙ sym (append_assoc (take i m) z (drop (i + length z) m))
+      ∙ ap (λ (n : ℕ). (take n m ++ z) ++ drop (n + length z) m) start
+      ∙ sym (sets-eq z m (81 * l) (omega arith))

@@ -1,10 +1,6 @@
 -- What is read of a line's words does not depend on what is added to its check bytes: here it is said of the bytes without it.
 -- Assumes nothing.
-use mathlib.Core.Path.{◌≡◌, sym, ap}
-use mathlib.Core.List.{List}
-use Prim.Native.Nat.{ℕ, ◌+◌, ◌<◌}
-use lib.Dec.{eqb}
-use lib.ListN.{length}
+use Rattle.std.proofs.Common.{◌≡◌, sym, ap, List, ℕ, ◌+◌, ◌<◌, eqb, length}
 use Rattle.code.specs.Code.{check_of}
 use Rattle.cells.specs.Chips.{xor_all, count, mask}
 use Rattle.cells.specs.ChipLaws.{xor_all_ext, count_ext, mask_ext}

@@ -1,11 +1,7 @@
 -- Laws of the passes: the flagged chips are those that hold no codeword, and the collisions codewords whose word is the catch-word.
 -- Assumes nothing.
-use Rattle.std.specs.Prelude.{◌≡◌, Bool, not, ◌&&◌, ◌||◌, cond, List, ℕ, ◌/◌, ◌<◌, eqb}
-use Rattle.std.proofs.Math.Path.{refl, sym, ap}
-use Rattle.std.proofs.Common.{◌∙◌, eq-eqb, ne_eqb, eqb-true}
-use Rattle.std.proofs.Math.Bool.{true, false}
-use native.Mathlib.Omega.{arith}
-use Rattle.std.proofs.lemmas.Bool.{eqb-false, not-true, not-false}
+use Rattle.std.proofs.Common.{◌≡◌, Bool, not, ◌&&◌, ◌||◌, cond, List, ℕ, ◌/◌, ◌<◌, eqb, refl, sym, ap, ◌∙◌, eq-eqb, ne_eqb, eqb-true, true, false, arith}
+use Rattle.std.proofs.lemmas.Bool.{eqb-false, false_from_ne_true, not-true, not-false}
 use Rattle.code.specs.Code.{is_codeword}
 use Rattle.code.proofs.CodeLaws.{codeword_syndrome}
 use Rattle.code.proofs.MendLaws.{mended_word_codeword}
@@ -142,8 +138,4 @@ others_cancel f e k h = xor_zero_eq _ (f k) (sym (xor_all_but f 9 k h) ∙ e)
 -- where one chip holds no codeword, the others do
 pub others_sound : (m : List ℕ) → count (is_unsound m) 9 ≡ 1 → (k : ℕ) → k < 9 → is_unsound m k ≡ true
     → (j : ℕ) → j < 9 → (j ≡ k → ⊥) → is_unsound m j ≡ false
-others_sound m c k h e j l ne = pick (is_unsound m j) refl
-  where
-    pick : (b : Bool) → is_unsound m j ≡ b → b ≡ false
-    pick true f = absurd (ne (count_one (is_unsound m) 9 (omega arith) j k l h f e))
-    pick false f = refl
+others_sound m c k h e j l ne = false_from_ne_true (is_unsound m j) (λ f. ne (count_one (is_unsound m) 9 (omega arith) j k l h f e))

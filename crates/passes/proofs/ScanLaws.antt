@@ -1,12 +1,8 @@
 -- Laws of a clean line: it is one whose words and check bytes xor to zero, whose first eight chips hold codewords, and whose words are not
 -- their catch-words. m is the line's bytes.
 -- Assumes nothing.
-use Rattle.std.specs.Prelude.{◌≡◌, Bool, true, ◌||◌, List, ℕ, suc, ◌+◌, ◌*◌, ◌<◌}
-use Rattle.std.proofs.Math.Path.{refl, sym, ap, ap₂}
-use Rattle.std.proofs.Common.{◌∙◌, arith}
-use Rattle.std.proofs.Math.Bool.{false, not, ◌&&◌}
-use Rattle.std.proofs.Math.Dec.{eqb}
-use borrow.Author.Tests.{eq-eqb, eqb-true, not-false}
+use Rattle.std.proofs.Common.{◌≡◌, true, List, ℕ, suc, ◌+◌, ◌*◌, ◌<◌, refl, sym, ap, ap₂, ◌∙◌, arith, false, not, ◌&&◌, eqb}
+use Rattle.std.proofs.lemmas.Bool.{eq-eqb, eqb-true, not-false, or_parts}
 use Rattle.code.specs.Code.{cell, syndrome_of, is_codeword, check_of}
 use Rattle.code.proofs.CodeLaws.{codeword_syndrome, syndrome_codeword, check_lt, check_makes, check_only, check_zero}
 use Rattle.lanes.specs.Lanes.{lanes}
@@ -21,19 +17,6 @@ use Rattle.passes.proofs.PassLaws.{sent_held, candidate_is}
 use Rattle.cells.specs.Checks.{every_other}
 use Rattle.cells.specs.CheckLaws.{other_equal, checks_xor}
 use Rattle.passes.specs.Scan.{is_clean, equals_catch_word, Clean}
-
--- ---- tests
-
--- two tests are equal where each shows the other
-pub same_test : (t u : Bool) → (t ≡ true → u ≡ true) → (u ≡ true → t ≡ true) → t ≡ u
-same_test true u f g = sym (f refl)
-same_test false true f g = g refl
-same_test false false f g = refl
-
--- a test that shows what does not hold fails
-pub fails : (t : Bool) → (t ≡ true → ⊥) → false ≡ t
-fails true h = absurd (h refl)
-fails false h = refl
 
 -- ---- a chip that holds a codeword
 
@@ -142,9 +125,5 @@ module _ (m cws : List ℕ) (bytes : Bytes m) where
       none : (k : ℕ) → k < 9 → is_candidate m cws k ≡ false
       none = count_none (is_candidate m cws) 9 (mask_count (is_candidate m cws) 9 (clean_none m cws e))
 
-      neither : (a b : Bool) → (a || b) ≡ false → a ≡ false
-      neither true b h = h
-      neither false b h = refl
-
       sound : (k : ℕ) → k < 9 → is_unsound m k ≡ false
-      sound k l = neither (is_unsound m k) (holds_catch_word m cws k) (sym (candidate_is m cws k) ∙ none k l)
+      sound k l = (or_parts (is_unsound m k) (holds_catch_word m cws k) (sym (candidate_is m cws k) ∙ none k l)).0

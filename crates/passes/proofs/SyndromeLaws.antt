@@ -1,15 +1,14 @@
 -- Laws of a line's nine syndromes. m is the line's bytes.
 -- Assumes nothing.
-use Rattle.std.specs.Prelude.{◌≡◌, refl, Bool, true, false, not, ◌&&◌, cond, List, ℕ, ◌+◌, ◌*◌, ◌/◌, ◌%◌, ◌^◌, ◌<◌, eqb}
-use Rattle.std.proofs.Common.{sym, ap, ap₂, ◌∙◌, arith, eqb-true}
+use Rattle.std.proofs.Common.{◌≡◌, refl, Bool, true, false, not, ◌&&◌, cond, List, ℕ, ◌+◌, ◌*◌, ◌/◌, ◌%◌, ◌^◌, ◌<◌, eqb, sym, ap, ◌∙◌, arith, eqb-true}
 use Rattle.std.proofs.Math.Nat.{zero-div}
 use Rattle.std.specs.Int.Bits.{bit_xor}
-use Rattle.std.proofs.lemmas.Nat.{xor_block}
 use Rattle.std.proofs.lemmas.Bool.{eqb-false}
 use Rattle.code.specs.Code.{is_codeword, check_of}
 use Rattle.code.specs.TestLaws.{and_first, and_second}
 use Rattle.code.proofs.CodeLaws.{syndrome_of_lem, syndrome_lt, check_lt}
 use Rattle.lanes.specs.Lanes.{lanes}
+use Rattle.lanes.proofs.LaneLaws.{lanes_both}
 use Rattle.cells.specs.Chips.{mask}
 use Rattle.cells.specs.ChipLaws.{mask_ext, mask_zero}
 use Rattle.cells.specs.Cells.{word_at, check_at, cell_at}
@@ -22,17 +21,6 @@ use Rattle.passes.specs.declared.syndromes.Syndromes.{Syndromes}
 use Rattle.passes.specs.Syndromes.{chip_syndrome, syndromes_of, syndrome_in, are_zero}
 
 -- ---- how they are made
-
-lanes_both : (a b c d e f g h : ℕ) → a < 2 ^ 16 → b < 2 ^ 16 → c < 2 ^ 16 → e < 2 ^ 16 → f < 2 ^ 16 → g < 2 ^ 16
-    → bit_xor (lanes a b c d) (lanes e f g h) ≡ lanes (bit_xor a e) (bit_xor b f) (bit_xor c g) (bit_xor d h)
-unfolding lanes
-lanes_both a b c d e f g h ha hb hc he hf hg =
-    let s : (x y z w : ℕ) → x + y * 2 ^ 16 + z * 2 ^ 32 + w * 2 ^ 48 ≡ ((w * 2 ^ 16 + z) * 2 ^ 16 + y) * 2 ^ 16 + x = λ x y z w. omega arith in
-    ap₂ bit_xor (s a b c d) (s e f g h)
-    ∙ xor_block 16 ((d * 2 ^ 16 + c) * 2 ^ 16 + b) ((h * 2 ^ 16 + g) * 2 ^ 16 + f) a e ha he
-    ∙ ap (λ (x : ℕ). x * 2 ^ 16 + bit_xor a e)
-    (xor_block 16 (d * 2 ^ 16 + c) (h * 2 ^ 16 + g) b f hb hf ∙ ap (λ (x : ℕ). x * 2 ^ 16 + bit_xor b f) (xor_block 16 d h c g hc hg))
-    ∙ sym (s (bit_xor a e) (bit_xor b f) (bit_xor c g) (bit_xor d h))
 
 -- the check bytes that words ask for, xored with those held
 pub made_other : (m : List ℕ) → Bytes m → (k : ℕ)

@@ -1,15 +1,9 @@
 -- What loops over the chips of a mask keep: pass one, a turn for each chip that holds no codeword, and pass three, one for each flagged chip.
 -- Assumes nothing.
-use mathlib.Core.Path.{◌≡◌, refl, sym, ap, ap₂, ◌∙◌}
-use mathlib.Core.Bool.{Bool, true, false, not, ◌&&◌, ◌||◌, cond, true≢false}
-use mathlib.Core.List.{List}
-use Prim.Native.Nat.{ℕ, ◌*◌, ◌^◌, ◌<◌}
-use native.Mathlib.Omega.{arith}
-use lib.Bits.{bit_or, bit_xor}
-use lib.Dec.{eqb}
-use lib.ListN.{length, get_or, set, length-set}
-use lib.Seq.{get_or-set_same, get_or-set_other}
-use borrow.Author.Tests.{eqb-true, eqb-false}
+use Rattle.std.proofs.Common.{◌≡◌, refl, sym, ap, ap₂, ◌∙◌, Bool, true, false, not, ◌&&◌, ◌||◌, cond, true≢false, List, ℕ, ◌*◌, ◌^◌, ◌<◌, arith, bit_or, bit_xor, eqb, length, get_or, set, length-set, get_or-set_same, get_or-set_other, eqb-true}
+use Rattle.std.proofs.Math.Bool.{or-false}
+use Rattle.std.proofs.lemmas.Bool.{eqb-false}
+use Rattle.code.specs.XorLaws.{xor_assoc}
 use Rattle.cells.specs.Chips.{xor_all, bit, mask, in_mask, AtPlaces}
 use Rattle.cells.specs.ChipLaws.{xor_all_ext, xor_all_change, mask_ext, mask_zero}
 use Rattle.cells.specs.MaskLaws.{TakenOff, mask_with, no_member}
@@ -60,14 +54,15 @@ exchanged_none p f g {rest} e same q =
     all k l false o = same k l (sym (member_is p e l refl) ∙ o)
 
 pub exchanged_more : {p : ℕ → Bool} {f g : ℕ → ℕ} {rest left k t x y : ℕ} → Exchanged p f g rest left → TakenOff rest k t → x ≡ f k → y ≡ g k
-    → Exchanged p f g t (bit_xor (bit_xor left x) y)
+    → Exchanged p f g t (bit_xor left (bit_xor x y))
 exchanged_more {p} {f} {g} {rest} {left} {k} {t} {x} {y} h l ex ey =
     let before : ℕ → ℕ = λ i. cond (in_mask rest i) (f i) (g i) in
     let after : ℕ → ℕ = λ i. cond (in_mask t i) (f i) (g i) in
     record {
       pending = pending_next h.pending l;
       parity =
-          ap₂ (λ (a b : ℕ). bit_xor (bit_xor a b) y) h.parity (ex ∙ ap (λ (c : Bool). cond c (f k) (g k)) (sym l.member))
+          sym (xor_assoc left x y)
+          ∙ ap₂ (λ (a b : ℕ). bit_xor (bit_xor a b) y) h.parity (ex ∙ ap (λ (c : Bool). cond c (f k) (g k)) (sym l.member))
           ∙ ap (bit_xor (bit_xor (xor_all before 9) (before k))) (ey ∙ ap (λ (c : Bool). cond c (f k) (g k)) (sym (rest_own l)))
           ∙ xor_all_change before after 9 k l.below (λ i u ne. ap (λ (c : Bool). cond c (f i) (g i)) (sym (rest_other l i u ne)));
     }
@@ -108,7 +103,7 @@ module _ (m cws : List ℕ) where
       none k l false o = sound_mends m k (sym (flagged_is m cws k) ∙ sym (member_is (is_flagged m cws) e l refl) ∙ o)
 
   pub sent_more : {rest left beyond k t w : ℕ} {b : Bool} → Sent rest left beyond → TakenOff rest k t → w ≡ mended_at m k → b ≡ beyond_at m k
-      → {v : ℕ} → v ≡ bit b * 2 ^ k → Sent t (bit_xor (bit_xor left (catch_word cws k)) w) (bit_or beyond v)
+      → {v : ℕ} → v ≡ bit b * 2 ^ k → Sent t (bit_xor left (bit_xor (catch_word cws k) w)) (bit_or beyond v)
   unfolding among
   sent_more {rest} {left} {beyond} {k} {t} {w} {b} h l ew eb {v} ev =
       let flagged : is_flagged m cws k ≡ true = h.xor.pending.chips k l.below l.member in
@@ -120,17 +115,13 @@ module _ (m cws : List ℕ) where
             ∙ mask_ext _ (among t) 9 (λ i u. put i u (eqb i k) refl);
       }
     where
-      or_false : (c : Bool) → (c || false) ≡ c
-      or_false true = refl
-      or_false false = refl
-
       put : (i : ℕ) → i < 9 → (e : Bool) → eqb i k ≡ e → ((not (in_mask rest i) && beyond_at m i) || (e && beyond_at m k)) ≡ (not (in_mask t i) && beyond_at m i)
       put i u true q =
           let own : i ≡ k = eqb-true i k q in
           ap₂ (λ (c : Bool) (j : ℕ). (not c && beyond_at m i) || beyond_at m j) (ap (in_mask rest) own ∙ l.member) (sym own)
           ∙ ap (λ (c : Bool). not c && beyond_at m i) (sym (ap (in_mask t) own ∙ rest_own l))
       put i u false q =
-          or_false _ ∙ ap (λ (c : Bool). not c && beyond_at m i) (sym (rest_other l i u (eqb-false i k q)))
+          or-false _ ∙ ap (λ (c : Bool). not c && beyond_at m i) (sym (rest_other l i u (eqb-false i k q)))
 
   pub sent_all : {rest left beyond : ℕ} → Sent rest left beyond → rest ≡ 0
       → (left ≡ xor_all (pass_three m cws) 9) × (beyond ≡ mask (is_flagged_beyond m cws) 9)

@@ -1,11 +1,11 @@
 // Pass one of a visit.
-ghost use Rattle.std.specs.Prelude.{◌≡◌, length};
-ghost use Rattle.cells.specs.Cells.{chips, line_bytes};
+ghost use Rattle.std.specs.Prelude.{◌≡◌};
+ghost use Rattle.cells.specs.Cells.{chips};
 ghost use Rattle.cells.specs.Chips.{xor_all, mask};
 ghost use Rattle.passes.specs.Passes.{pass_one, is_candidate, is_unsound};
 
 use super::{equal, held_words};
-use cells::{CHIPS, masks};
+use cells::{CHIPS, LINE_BYTES, masks};
 
 // What pass one gives: the chips that sent their catch-word, and the xor of the nine words sent.
 #[derive(Clone, Copy)]
@@ -16,29 +16,16 @@ pub struct PassOne {
 
 // Registers equal to catch-words. A chip that holds no codeword sends its register, and so its catch-word; one that holds a codeword sends
 // its word. The candidates are the chips that hold no codeword and those whose word is their catch-word.
-pub fn pass(line: &[u8], catch_words: &[u64; CHIPS], unsound: u32) -> PassOne
-    requires sizes { (length line.now ≡ line_bytes) × (length catch_words.now ≡ chips) }
-    requires unsound { unsound ≡ mask (is_unsound line.now) chips }
+pub fn pass(line: &[u8; LINE_BYTES], catch_words: &[u64; CHIPS], unsound: u32) -> PassOne
+    requires { unsound ≡ mask (is_unsound line.now) chips }
     ensures candidates { result.candidates ≡ mask (is_candidate line.now catch_words.now) chips }
     ensures parity { result.parity ≡ xor_all (pass_one line.now catch_words.now) chips }
 {
     let candidates = unsound | equal::of_line(line, catch_words);
-    let parity = parity(line, catch_words, unsound);
-    PassOne { candidates, parity }
-}
-
-// The xor of the nine words sent: of the words held, and for each chip that holds no codeword its catch-word in place of its word.
-fn parity(line: &[u8], catch_words: &[u64; CHIPS], unsound: u32) -> u64
-    requires sizes { (length line.now ≡ line_bytes) × (length catch_words.now ≡ chips) }
-    requires unsound { unsound ≡ mask (is_unsound line.now) chips }
-    ensures { result ≡ xor_all (pass_one line.now catch_words.now) chips }
-{
+    // The xor of the words held, and for each chip that holds no codeword its catch-word in place of its word.
     let mut parity = held_words::parity(line);
-    let mut rest = unsound;
-    while rest != 0 {
-        let k = masks::lowest(rest);
-        parity = parity ^ cells::word_at(line, k) ^ catch_words[k];
-        rest = masks::without_lowest(rest);
+    for k in masks::chips(unsound) {
+        parity ^= cells::word_at(line, k) ^ catch_words[k];
     }
-    parity
+    PassOne { candidates, parity }
 }

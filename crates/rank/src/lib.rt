@@ -1,6 +1,6 @@
-// The six calls (document 01, "The calls"), which firmware links by crate `rank_c`: each is tested for its refusals, and its work is done by
-// a crate below. No call has a `requires`: each says for every input what it returns and what every byte lent to be written is afterwards.
-// What is lent by `&` can't be written.
+// The six calls (document 01, "The calls"), which firmware links by crate `rank_c`: each is tested for its refusals, and its work is done
+// by a crate below. No call has a `requires`: each says for every input what it returns and what every byte lent to be written is
+// afterwards. What is lent by `&` can't be written.
 #![tactic(auto)]
 
 ghost use Rattle.std.specs.Prelude.{◌≡◌};
@@ -13,7 +13,8 @@ use visits::{ReadResult, read, sweep};
 // It grows whenever a struct, a parameter list or the set of calls changes.
 const INTERFACE_VERSION: u32 = 3;
 
-// What boot, write, renew and fault return: a refusal by its number in document 01, 0 for none, and the record.
+// What boot, write, renew and fault return: a refusal by its number in document 01, 0 for none, since an exported struct can't hold an
+// enum, and the record.
 #[repr(C)]
 #[derive(Clone, Copy)]
 pub struct Called {
@@ -37,10 +38,9 @@ pub fn rank_boot(memory: &mut [u8], catch_words: &[u64]) -> Called
     ensures result { result ≡ (boot_of memory.old catch_words.now).result }
     ensures memory { memory.new ≡ (boot_of memory.old catch_words.now).memory }
 {
-    let refusal = refusals::of_boot(memory, catch_words);
-    if refusal != 0 {
+    if let Err(refusal) = refusals::of_boot(memory, catch_words) {
         return Called {
-            refusal,
+            refusal: refusal.into(),
             rank: Rank::fresh(),
         };
     }
@@ -56,12 +56,15 @@ pub fn rank_write(rank: Rank, memory: &mut [u8], line: u32, bytes: &[u8]) -> Cal
     ensures result { result ≡ (write_of rank memory.old line bytes.now).result }
     ensures memory { memory.new ≡ (write_of rank memory.old line bytes.now).memory }
 {
-    let number = refusals::of_write(rank, memory, line, bytes);
-    if number == 0 {
-        memory::lay(memory, line, bytes);
-    }
+    let refusal = match refusals::of_write(rank, memory, line, bytes) {
+        Ok(()) => {
+            memory::lay(memory, line, bytes.as_array().unwrap());
+            0
+        }
+        Err(refusal) => refusal.into(),
+    };
     Called {
-        refusal: number,
+        refusal,
         rank: record::kept(rank),
     }
 }
@@ -80,20 +83,22 @@ pub fn rank_read(
 {
     // One local holds the record from the first test to the result: the compiler then copies it whole.
     let mut after = rank;
-    let refusal = refusals::of_read(after, memory, task, line, buffer);
-    let mut visited = Visited {
-        refusal,
-        passes: 0,
-        flagged: 0,
-        collisions: 0,
+    let visited = match refusals::of_read(after, memory, task, line, buffer) {
+        Ok(()) => {
+            let lines = after.lines;
+            let bytes = buffer.as_mut_array().unwrap();
+            let visited = read::visit_into(&mut after.catch_words, memory, lines, line, bytes);
+            record::count(&mut after.repairs, task, visited.refusal, visited.flagged);
+            record::set_registers(&mut after.registers, after.catch_words, visited.collisions);
+            visited
+        }
+        Err(refusal) => Visited {
+            refusal: refusal.into(),
+            passes: 0,
+            flagged: 0,
+            collisions: 0,
+        },
     };
-    if refusal == 0 {
-        let lines = after.lines;
-        visited = read::visit_into(&mut after.catch_words, memory, lines, line, buffer);
-        record::count(&mut after.repairs, task, visited.refusal, visited.flagged);
-        let words = after.catch_words;
-        record::set_registers(&mut after.registers, words, visited.collisions);
-    }
     ReadResult {
         refusal: visited.refusal,
         passes: visited.passes,
@@ -114,26 +119,23 @@ pub fn rank_patrol(
     ensures result { result ≡ (patrol_of rank memory.old task first budget).result }
     ensures memory { memory.new ≡ (patrol_of rank memory.old task first budget).memory }
 {
-    let refusal = refusals::of_patrol(rank, memory, task, first);
-    if refusal != 0 {
+    if let Err(refusal) = refusals::of_patrol(rank, memory, task, first) {
         return PatrolResult {
-            refusal,
+            refusal: refusal.into(),
             visited: 0,
             refused: 0,
             rewritten: 0,
             rank,
         };
     }
-    let left = rank.lines - first;
-    let visited = sweep::allowance(budget, left);
+    let visited = sweep::allowance(budget, rank.lines - first);
     let tally = sweep::sweep(rank, memory, task, first, visited);
-    let swept = tally.rank;
     PatrolResult {
         refusal: 0,
         visited,
-        refused: tally.refused,
-        rewritten: tally.rewritten,
-        rank: swept,
+        refused: tally.counts.refused,
+        rewritten: tally.counts.rewritten,
+        rank: tally.rank,
     }
 }
 
@@ -141,9 +143,11 @@ pub fn rank_patrol(
 pub fn rank_renew(rank: Rank, chip: u32, catch_word: u64) -> Called
     ensures { result ≡ renew_of rank chip catch_word }
 {
-    let refusal = refusals::of_renew(rank, chip);
-    if refusal != 0 {
-        return Called { refusal, rank };
+    if let Err(refusal) = refusals::of_renew(rank, chip) {
+        return Called {
+            refusal: refusal.into(),
+            rank,
+        };
     }
     Called {
         refusal: 0,
@@ -156,11 +160,13 @@ pub fn rank_fault(rank: Rank, memory: &mut [u8], line: u32, chip: u32, pattern: 
     ensures result { result ≡ (fault_of rank memory.old line chip pattern.now).result }
     ensures memory { memory.new ≡ (fault_of rank memory.old line chip pattern.now).memory }
 {
-    let refusal = refusals::of_fault(rank, memory, line, chip, pattern);
-    if refusal != 0 {
-        return Called { refusal, rank };
+    if let Err(refusal) = refusals::of_fault(rank, memory, line, chip, pattern) {
+        return Called {
+            refusal: refusal.into(),
+            rank,
+        };
     }
-    memory::xor_into(memory, line, chip, pattern);
+    memory::xor_into(memory, line, chip, pattern.as_array().unwrap());
     Called { refusal: 0, rank }
 }
 

@@ -1,37 +1,62 @@
 // What the programs `vectors_rank` and `vectors_rows` are written in: the calls on a rank of four lines, one after another, each compared
-// with what is due.
+// with what is due: Ok, or Err with the number of a refusal.
 #![tactic(auto)]
+
+ghost use Rattle.std.specs.Prelude.{◌≡◌, ◌+◌, ◌%◌, ◌^◌, true, false};
 
 use record::Rank;
 use std::io;
+use trials::{Visit, outcome};
 
 // The catch-words of document 01's bench.
 pub const CATCH_WORD: u64 = 0x1111_1111_1111_1111;
 
-type Memory = [u8; 324];
+// What each byte of a buffer is before a read.
+pub const UNREAD: u8 = 0x5a;
+
+// What a patrol reports: the lines visited, the lines refused and the words rewritten.
+#[derive(Clone, Copy, PartialEq, Eq, Default)]
+pub struct Tally {
+    pub visited: u32,
+    pub refused: u32,
+    pub rewritten: u32,
+}
+
+impl Tally {
+    pub fn new(visited: u32, refused: u32, rewritten: u32) -> Self
+        ensures visited { result.visited ≡ visited }
+        ensures refused { result.refused ≡ refused }
+        ensures rewritten { result.rewritten ≡ rewritten }
+    {
+        Tally {
+            visited,
+            refused,
+            rewritten,
+        }
+    }
+}
 
 // The record and the memory as the last call left them, the calls made, and how many of them did what was due.
 #[derive(Clone, Copy)]
 pub struct Session {
     pub rank: Rank,
-    pub memory: Memory,
+    pub memory: [u8; 324],
     pub made: u64,
     pub held: u64,
 }
 
-// A session as an accepted boot leaves it.
-pub fn booted() -> Session {
-    Session {
+// Makes the calls of a kind on a rank as an accepted boot leaves it, and prints how many of them did what was due.
+pub fn run<F: FnOnce(&mut Session)>(rt: &impl Print, what: &str, calls: F) -> io::Result<()>
+    requires { F.IsAlwaysCallable calls }
+{
+    let mut s = Session {
         rank: record_of(4, true, CATCH_WORD),
         memory: [0; 324],
         made: 0,
         held: 0,
-    }
-}
-
-// Prints what a session tried, how many of its calls did what was due, and of how many.
-pub fn report(rt: &impl Print, what: &[u8], s: Session) -> io::Result<()> {
-    trials::report(rt, what, s.held, s.made)
+    };
+    calls(&mut s);
+    trials::print(rt, what, s.held, s.made)
 }
 
 // A record with one catch-word for all nine chips.
@@ -45,101 +70,110 @@ pub fn record_of(lines: u32, enable: bool, catch_word: u64) -> Rank {
     }
 }
 
-// The session after a call that was right or not, by what it returned. A refused call is to leave the record and the memory as they were.
-fn judged(s: Session, rank: Rank, memory: Memory, right: bool, number: u32) -> Session {
-    let given = s.memory;
-    let stays = same(rank, s.rank) & same_memory(&memory, &given);
-    let mut after = counted(s, right & ((number == 0) | stays));
-    after.rank = rank;
-    after.memory = memory;
-    after
-}
+// Each call is counted, once: a clause of each says so, as it is about the call and not about a session.
+impl Session {
+    // A write of one byte 64 times, which is to be accepted.
+    pub fn write(&mut self, line: u32, byte: u8)
+        ensures { self.new.made ≡ (self.old.made + 1) % 2 ^ 64 }
+    {
+        self.write_gives(line, &[byte; 64], Ok(()));
+    }
 
-// The session with one call more.
-pub fn counted(s: Session, held: bool) -> Session {
-    let mut after = s;
-    after.made = std::num::wrapping_add_u64(s.made, 1);
-    after.held = std::num::wrapping_add_u64(s.held, held as u64);
-    after
-}
+    // A write of any bytes.
+    pub fn write_gives(&mut self, line: u32, bytes: &[u8], due: Result<(), u32>)
+        ensures { self.new.made ≡ (self.old.made + 1) % 2 ^ 64 }
+    {
+        let before = self.memory;
+        let called = rank::rank_write(self.rank, &mut self.memory, line, bytes);
+        self.judge(called.rank, before, outcome(called.refusal) == due, due);
+    }
 
-fn same_memory(a: &Memory, b: &Memory) -> bool {
-    a == b
-}
+    // A fault that is to be accepted. The pattern is given by its last three bytes.
+    pub fn fault(&mut self, line: u32, chip: u32, last: [u8; 3])
+        ensures { self.new.made ≡ (self.old.made + 1) % 2 ^ 64 }
+    {
+        let pattern = [0, 0, 0, 0, 0, 0, last[0], last[1], last[2]];
+        self.fault_gives(line, chip, &pattern, Ok(()));
+    }
 
-// Whether two records are the same.
-pub fn same(a: Rank, b: Rank) -> bool {
-    for k in 0..9 {
-        if differ_at(a, b, k) {
-            return false;
+    // A fault by any pattern.
+    pub fn fault_gives(&mut self, line: u32, chip: u32, pattern: &[u8], due: Result<(), u32>)
+        ensures { self.new.made ≡ (self.old.made + 1) % 2 ^ 64 }
+    {
+        let before = self.memory;
+        let called = rank::rank_fault(self.rank, &mut self.memory, line, chip, pattern);
+        self.judge(called.rank, before, outcome(called.refusal) == due, due);
+    }
+
+    // A read of 64 bytes. An answer is one byte 64 times, a refusal leaves the buffer as it was.
+    pub fn read(&mut self, line: u32, task: u32, due: Result<u8, u32>, seen: Visit)
+        ensures { self.new.made ≡ (self.old.made + 1) % 2 ^ 64 }
+    {
+        self.read_gives(&mut [UNREAD; 64], line, task, due, seen);
+    }
+
+    // A read into any buffer.
+    pub fn read_gives(
+        &mut self,
+        buffer: &mut [u8],
+        line: u32,
+        task: u32,
+        due: Result<u8, u32>,
+        seen: Visit,
+    )
+        ensures { self.new.made ≡ (self.old.made + 1) % 2 ^ 64 }
+    {
+        let before = self.memory;
+        let r = rank::rank_read(self.rank, &mut self.memory, task, line, buffer);
+        let byte = due.unwrap_or(UNREAD);
+        let due = due.map(|_| ());
+        let right = outcome(r.refusal) == due
+            && Visit::new(r.passes, r.flagged, r.collisions) == seen
+            && buffer.iter().all(|b| *b == byte);
+        self.judge(r.rank, before, right, due);
+    }
+
+    // A refused patrol is to report no lines and no words.
+    pub fn patrol(&mut self, first: u32, task: u32, budget: u32, due: Result<Tally, u32>)
+        ensures { self.new.made ≡ (self.old.made + 1) % 2 ^ 64 }
+    {
+        let before = self.memory;
+        let p = rank::rank_patrol(self.rank, &mut self.memory, task, first, budget);
+        let tally = due.unwrap_or_default();
+        let due = due.map(|_| ());
+        let right = outcome(p.refusal) == due
+            && Tally::new(p.visited, p.refused, p.rewritten) == tally;
+        self.judge(p.rank, before, right, due);
+    }
+
+    // A renew has no memory.
+    pub fn renew(&mut self, chip: u32, catch_word: u64, due: Result<(), u32>)
+        ensures { self.new.made ≡ (self.old.made + 1) % 2 ^ 64 }
+    {
+        let called = rank::rank_renew(self.rank, chip, catch_word);
+        let right = outcome(called.refusal) == due;
+        self.judge(called.rank, self.memory, right, due);
+    }
+
+    // Counts a call and takes its record. A refused call is to have left the record and the memory as they were.
+    fn judge(&mut self, rank: Rank, before: [u8; 324], right: bool, due: Result<(), u32>)
+        ensures rank { self.new.rank ≡ rank }
+        ensures made { self.new.made ≡ (self.old.made + 1) % 2 ^ 64 }
+    {
+        let stays = rank == self.rank && self.memory == before;
+        self.count(right && (due.is_ok() || stays));
+        self.rank = rank;
+    }
+
+    // Counts a call, or something else that is looked at, by whether it did what was due.
+    pub fn count(&mut self, held: bool)
+        ensures made { self.new.made ≡ (self.old.made + 1) % 2 ^ 64 }
+        ensures failed { held ≡ false → self.new.held ≡ self.old.held }
+        ensures held { held ≡ true → self.new.held ≡ (self.old.held + 1) % 2 ^ 64 }
+    {
+        self.made = self.made.wrapping_add(1);
+        if held {
+            self.held = self.held.wrapping_add(1);
         }
     }
-    (a.lines == b.lines) & (a.enable == b.enable)
-}
-
-fn differ_at(a: Rank, b: Rank, k: usize) -> bool {
-    let chip = k % 9;
-    let task = k % 8;
-    (a.catch_words[chip] != b.catch_words[chip])
-        | (a.registers[chip] != b.registers[chip])
-        | (a.repairs[task] != b.repairs[task])
-}
-
-// A line is filled with one byte; the number is the refusal that is due, 0 for none.
-pub fn write(s: Session, line: u32, byte: u8, length: usize, number: u32) -> Session {
-    let bytes = [byte; 65];
-    let mut memory = s.memory;
-    let called = rank::rank_write(s.rank, &mut memory, line, &bytes[0..length % 66]);
-    judged(s, called.rank, memory, called.refusal == number, number)
-}
-
-// The pattern is given by its last three bytes.
-pub fn fault(
-    s: Session,
-    line: u32,
-    chip: u32,
-    last: [u8; 3],
-    length: usize,
-    number: u32,
-) -> Session {
-    let pattern = [0, 0, 0, 0, 0, 0, last[0], last[1], last[2], 0];
-    let mut memory = s.memory;
-    let called = rank::rank_fault(s.rank, &mut memory, line, chip, &pattern[0..length % 11]);
-    judged(s, called.rank, memory, called.refusal == number, number)
-}
-
-// The byte is that of an answer's 64, or 5Ah for a refusal. The numbers are the refusal, the passes, and the flagged and collision masks.
-pub fn read(s: Session, line: u32, task: u32, byte: u8, length: usize, due: [u32; 4]) -> Session {
-    let mut buffer = [0x5a; 65];
-    let mut memory = s.memory;
-    let r = rank::rank_read(s.rank, &mut memory, task, line, &mut buffer[0..length % 66]);
-    let numbers = [r.refusal, r.passes, r.flagged, r.collisions];
-    let right = trials::same_numbers(numbers, due) & is_filled(&buffer, byte);
-    judged(s, r.rank, memory, right, due[0])
-}
-
-fn is_filled(buffer: &[u8; 65], byte: u8) -> bool {
-    let mut due = [byte; 65];
-    due[64] = 0x5a;
-    *buffer == due
-}
-
-// The numbers are the refusal, the lines visited, the lines refused and the words rewritten.
-pub fn patrol(s: Session, first: u32, task: u32, budget: u32, due: [u32; 4]) -> Session {
-    let mut memory = s.memory;
-    let p = rank::rank_patrol(s.rank, &mut memory, task, first, budget);
-    let numbers = [p.refusal, p.visited, p.refused, p.rewritten];
-    judged(
-        s,
-        p.rank,
-        memory,
-        trials::same_numbers(numbers, due),
-        due[0],
-    )
-}
-
-pub fn renew(s: Session, chip: u32, catch_word: u64, number: u32) -> Session {
-    let memory = s.memory;
-    let called = rank::rank_renew(s.rank, chip, catch_word);
-    judged(s, called.rank, memory, called.refusal == number, number)
 }

@@ -84,6 +84,14 @@ module _ (task n : ℕ) (totals : List ℕ) (i : ℕ) where
           let none : min (slice_index totals i + 0) total_limit ≡ slice_index_or totals i 0 = omega (arith, few) in
           ap (set (counted_below task n totals i) i) none ∙ other_passed (eqb-false task i e)
 
+-- where it stands, the total is as it was
+pub counted_here : (task n : ℕ) (totals : List ℕ) (i : ℕ) → slice_index (counted_below task n totals i) i ≡ slice_index totals i
+counted_here task n totals i = pick (nat_lt task i) refl
+  where
+    pick : (b : Bool) → nat_lt task i ≡ b → slice_index (cond b (counted task n totals) totals) i ≡ slice_index totals i
+    pick true e = let ne : task < i = ltb-true task i e in counted_other task i n totals (λ same. omega (arith, same))
+    pick false e = refl
+
 -- and once it has passed them all, the task's among them
 pub counted_all : (task n : ℕ) (totals : List ℕ) (i : ℕ) → task < i → counted_below task n totals i ≡ counted task n totals
 counted_all task n totals i l = ap (λ (b : Bool). cond b (counted task n totals) totals) (lt-ltb task i l)

@@ -5,12 +5,12 @@ ghost use Rattle.std.specs.Prelude.{◌≡◌, ◌+◌, ◌/◌, ◌<◌, ◌≤
 ghost use Rattle.cells.specs.Cells.{chips, line_bytes};
 ghost use Rattle.record.specs.Record.{line_limit, task_limit, total_limit, booted, accepted, grown, moved, moved_by, counted, counted_by, renewed, fresh, is_line_count, is_task};
 
-use cells::{CHIPS, LINE_BYTES};
+use cells::{CHIPS, LINE_BYTES, masks};
 
 // The record, held by value: N, the Enable bit, the catch-words as the controller knows them, the registers as the chips hold them, and a
 // repair total for each task.
 #[repr(C)]
-#[derive(Clone, Copy)]
+#[derive(Clone, Copy, PartialEq, Eq)]
 pub struct Rank {
     pub lines: u32,
     pub enable: bool,
@@ -26,8 +26,8 @@ impl Rank {
     // Tasks are 0 to 7.
     pub const TASK_LIMIT: u32 = 8;
 
-    // Where a repair total stops.
-    pub const REPAIR_LIMIT: u32 = 4294967295;
+    // Where a repair total stops: a saturating sum goes no further.
+    pub const REPAIR_LIMIT: u32 = u32::MAX;
 
     // What a colliding chip's catch-word grows by.
     pub const CATCH_WORD_STEP: u64 = 0x9E37_79B9_7F4A_7C15;
@@ -36,10 +36,7 @@ impl Rank {
     pub fn is_line_count(lines: u32) -> bool
         ensures { result ≡ is_line_count lines }
     {
-        if lines < 1 {
-            return false;
-        }
-        lines <= Rank::LINE_LIMIT
+        (1..=Rank::LINE_LIMIT).contains(&lines)
     }
 
     // Whether this is one of the tasks.
@@ -63,31 +60,16 @@ impl Rank {
     }
 }
 
-// The record of an accepted boot.
+// Where a total stops is where a saturating sum of 32 bits does, by which `count` adds.
+const _: () = prove!(Rank::REPAIR_LIMIT == u32::MAX);
+
+// The record of an accepted boot. The catch-words are a slice, as C lends them.
 pub fn booted(memory: &[u8], catch_words: &[u64]) -> Rank
     requires { (length memory.now / line_bytes ≤ line_limit) × (length catch_words.now ≡ chips) }
     ensures { result ≡ booted (length memory.now / line_bytes) catch_words.now }
 {
-    let words = nine(catch_words);
-    Rank {
-        lines: (memory.len() / LINE_BYTES) as u32,
-        enable: true,
-        catch_words: words,
-        registers: words,
-        repairs: [0u32; 8],
-    }
-}
-
-// Nine words out of a slice.
-fn nine(words: &[u64]) -> [u64; CHIPS]
-    requires { length words.now ≡ chips }
-    ensures { result ≡ words.now }
-{
-    let mut out = [0u64; CHIPS];
-    for k in 0..CHIPS {
-        out[k] = words[k];
-    }
-    out
+    let nine: [u64; CHIPS] = catch_words.try_into().unwrap();
+    accepted((memory.len() / LINE_BYTES) as u32, nine, [0; 8])
 }
 
 // The record with one chip's catch-word and register set.
@@ -116,35 +98,36 @@ pub fn accepted(lines: u32, catch_words: [u64; CHIPS], totals: [u32; 8]) -> Rank
     }
 }
 
-// The record as it came, put together from its fields: the compiler then makes one copy less of it.
+// The record as it came, put together from its fields: the compiler then makes one copy less of it. Arrays are named first: a field that is
+// an array, stored as it stands, gets no proof.
 pub fn kept(rank: Rank) -> Rank
     ensures { result ≡ rank }
 {
     let catch_words = rank.catch_words;
     let registers = rank.registers;
-    let totals = rank.repairs;
+    let repairs = rank.repairs;
     Rank {
         lines: rank.lines,
         enable: rank.enable,
         catch_words,
         registers,
-        repairs: totals,
+        repairs,
     }
 }
 
-// Step 6 on the catch-words, in their place, by the number of the visit's outcome: an answer moves those of the colliding chips.
+// Step 6 on the catch-words, in their place, by the number of the visit's outcome: an answer moves those of the colliding chips. The number
+// is not an `Outcome`, since the clauses of this and of `count` hold for every number.
 pub fn move_words(words: &mut [u64; CHIPS], refusal: u32, collisions: u32)
-    requires { length words.old ≡ chips }
     ensures { words.new ≡ moved_by refusal collisions words.old }
 {
-    if refusal != 0 {
+    if refusal != 0 || collisions == 0 {
         return;
     }
-    if collisions == 0 {
-        return;
+    for (k, word) in words.iter_mut().enumerate() {
+        if masks::member(collisions, k) {
+            *word = word.wrapping_add(Rank::CATCH_WORD_STEP);
+        }
     }
-    let before = *words;
-    *words = moved(before, collisions);
 }
 
 // Step 6 on the registers, in their place: where chips collide they are set to the catch-words after the visit, which they equalled before.
@@ -158,69 +141,17 @@ pub fn set_registers(registers: &mut [u64; CHIPS], catch_words: [u64; CHIPS], co
 
 // Step 6 on the eight totals, in their place, by the number of the visit's outcome: an answer counts the flagged chips for the task.
 pub fn count(totals: &mut [u32; 8], task: u32, refusal: u32, flagged: u32)
-    requires { (task < task_limit) × (slice_index totals.old task ≤ total_limit) }
+    requires { task < task_limit }
     ensures { totals.new ≡ counted_by refusal task flagged totals.old }
 {
-    if refusal != 0 {
+    if refusal != 0 || flagged == 0 {
         return;
     }
-    if flagged == 0 {
-        return;
+    let repairs = flagged.count_ones();
+    // Each total is stored, most as they were: a store at an index that is known only at run time would be waited for by the loads of the
+    // record after it.
+    for (i, total) in totals.iter_mut().enumerate() {
+        let more = if i == task as usize { repairs } else { 0 };
+        *total = total.saturating_add(more);
     }
-    let before = *totals;
-    *totals = counted(before, task, u32::count_ones(flagged));
-}
-
-// Nine catch-words, those of the colliding chips moved.
-fn moved(words: [u64; CHIPS], collisions: u32) -> [u64; CHIPS]
-    ensures { result ≡ moved collisions words }
-{
-    let mut out = [0u64; CHIPS];
-    for k in 0..CHIPS {
-        let collides = cells::masks::member(collisions, k);
-        out[k] = grown_if(collides, words[k]);
-    }
-    out
-}
-
-// A word, grown by the record's step where a test holds. The carry out of 64 bits is dropped.
-fn grown_if(test: bool, word: u64) -> u64
-    ensures { result ≡ (if test then grown word else word) }
-{
-    if test {
-        std::num::wrapping_add_u64(word, Rank::CATCH_WORD_STEP)
-    } else {
-        word
-    }
-}
-
-// Eight repair totals, one task's after some repairs. Each is written by a selection: a store at an index that is known only at run time
-// would be waited for by the loads of the record after it.
-fn counted(totals: [u32; 8], task: u32, repairs: u32) -> [u32; 8]
-    requires { task < task_limit }
-    ensures { result ≡ counted task repairs totals }
-{
-    let mut after = totals;
-    for i in 0..8u32 {
-        after[i as usize] = total_after(totals[i as usize], repairs_if(task == i, repairs));
-    }
-    after
-}
-
-// The repairs where a test holds, else none.
-fn repairs_if(test: bool, repairs: u32) -> u32
-    ensures { result ≡ (if test then repairs else 0) }
-{
-    if test { repairs } else { 0 }
-}
-
-// A repair total after some repairs. It stays at its limit once there: a sum that wraps is below the total.
-fn total_after(total: u32, repairs: u32) -> u32
-    ensures { result ≡ min (total + repairs) total_limit }
-{
-    let sum = std::num::wrapping_add_u32(total, repairs);
-    if sum < total {
-        return Rank::REPAIR_LIMIT;
-    }
-    sum
 }

@@ -1,140 +1,127 @@
-// The refusals of each call, in document 01's order with document 02's numbers in it: their number, 0 for none.
+// The refusals of each call, in document 01's order with document 02's numbers in it. A record is passed by value: where it was lent, the
+// compiler copied it once more in a read, which took 6 % longer.
 #![tactic(auto)]
 
-ghost use Rattle.std.specs.Prelude.{◌≡◌, not, [], ◌∷◌, eqb, ltb, get_or};
-ghost use Rattle.cells.specs.Cells.{chips};
-ghost use Rattle.cells.specs.Chips.{count};
-ghost use Rattle.refusals.specs.Refusals.{buffer_out, chip_out, memory_out, not_ready, register_differs, refused_if, state_refusals, line_refusals, first_of, boot_refusal, write_refusal, read_tests, patrol_refusal, renew_refusal, fault_refusal};
+ghost use Rattle.std.specs.Prelude.{◌≡◌};
+ghost use Rattle.refusals.specs.Numbers.{number_of, number_in};
+ghost use Rattle.refusals.specs.Refusals.{buffer_out, chip_out, memory_out, not_ready, memory_differs, register_differs, refused_if, state_refusals, line_refusals, first_of, boot_refusal, write_refusal, read_tests, patrol_refusal, renew_refusal, fault_refusal};
 
 use cells::{CHIP_BYTES, CHIPS, DATA_BYTES, LINE_BYTES};
 use record::Rank;
 
-// The numbers of document 01's two tables and of document 02, by what each refuses. 20 and 21 are a visit's: crate `line` has them.
-const LINE: u32 = 1;
+// What a call's tests refuse, each with its number in document 01's two tables or document 02. 20 and 21 are a visit's: `line::Outcome` has
+// them.
+#[derive(Clone, Copy, Debug, PartialEq, Eq)]
+pub enum Refusal {
+    Line = 1,
+    Buffer = 2,
+    Chip = 3,
+    Pattern = 4,
+    CatchWords = 5,
+    BootMemory = 11,
+    NotReady = 12,
+    Memory = 13,
+    Register = 14,
+    Task = 31,
+}
 
-const BUFFER: u32 = 2;
+impl From<Refusal> for u32 {
+    ghost from_gives = { λ refusal number. number ≡ number_of refusal };
 
-const CHIP: u32 = 3;
-
-const PATTERN: u32 = 4;
-
-const CATCH_WORDS: u32 = 5;
-
-const BOOT_MEMORY: u32 = 11;
-
-const NOT_READY: u32 = 12;
-
-const MEMORY: u32 = 13;
-
-const REGISTER: u32 = 14;
-
-const TASK: u32 = 31;
+    fn from(refusal: Refusal) -> u32 {
+        refusal as u32
+    }
+}
 
 // Of boot: 11, 5.
-pub fn of_boot(memory: &[u8], catch_words: &[u64]) -> u32
-    ensures { result ≡ boot_refusal memory.now catch_words.now }
+pub fn of_boot(memory: &[u8], catch_words: &[u64]) -> Result<(), Refusal>
+    ensures { number_in result ≡ boot_refusal memory.now catch_words.now }
 {
-    if memory_out(memory) {
-        return BOOT_MEMORY;
-    }
-    if catch_words.len() != CHIPS {
-        return CATCH_WORDS;
-    }
-    0
+    refuse_if(memory_out(memory), Refusal::BootMemory)?;
+    refuse_if(catch_words.len() != CHIPS, Refusal::CatchWords)
 }
 
 // Of write: 12, 13, 14, 1, 2.
-pub fn of_write(rank: Rank, memory: &[u8], line: u32, buffer: &[u8]) -> u32
-    ensures { result ≡ write_refusal rank memory.now line buffer.now }
+pub fn of_write(rank: Rank, memory: &[u8], line: u32, buffer: &[u8]) -> Result<(), Refusal>
+    ensures { number_in result ≡ write_refusal rank memory.now line buffer.now }
 {
-    let before = of_line(rank, memory, line);
-    or_if(before, buffer_out(buffer), BUFFER)
+    of_line(rank, memory, line)?;
+    refuse_if(buffer_out(buffer), Refusal::Buffer)
 }
 
 // Of read: 12, 13, 14, 31, 1, 2.
-pub fn of_read(rank: Rank, memory: &[u8], task: u32, line: u32, buffer: &[u8]) -> u32
-    ensures { result ≡ read_tests rank memory.now task line buffer.now }
+pub fn of_read(
+    rank: Rank,
+    memory: &[u8],
+    task: u32,
+    line: u32,
+    buffer: &[u8],
+) -> Result<(), Refusal>
+    ensures { number_in result ≡ read_tests rank memory.now task line buffer.now }
 {
-    let before = of_patrol(rank, memory, task, line);
-    or_if(before, buffer_out(buffer), BUFFER)
+    of_patrol(rank, memory, task, line)?;
+    refuse_if(buffer_out(buffer), Refusal::Buffer)
 }
 
 // Of patrol, and the tests that read begins with: 12, 13, 14, 31, 1.
-pub fn of_patrol(rank: Rank, memory: &[u8], task: u32, first: u32) -> u32
-    ensures { result ≡ patrol_refusal rank memory.now task first }
+pub fn of_patrol(rank: Rank, memory: &[u8], task: u32, first: u32) -> Result<(), Refusal>
+    ensures { number_in result ≡ patrol_refusal rank memory.now task first }
 {
-    let lines = rank.lines;
-    let task_out = !Rank::is_task(task);
-    let state = of_state(rank, memory);
-    let before = or_if(state, task_out, TASK);
-    or_if(before, lines <= first, LINE)
+    of_state(rank, memory)?;
+    refuse_if(!Rank::is_task(task), Refusal::Task)?;
+    refuse_if(rank.lines <= first, Refusal::Line)
 }
 
 // Of renew: 12, 14, 3.
-pub fn of_renew(rank: Rank, chip: u32) -> u32
-    ensures { result ≡ renew_refusal rank chip }
+pub fn of_renew(rank: Rank, chip: u32) -> Result<(), Refusal>
+    ensures { number_in result ≡ renew_refusal rank chip }
 {
-    if not_ready(rank) {
-        return NOT_READY;
-    }
-    if register_differs(rank) {
-        return REGISTER;
-    }
-    if chip_out(chip) {
-        return CHIP;
-    }
-    0
+    refuse_if(not_ready(rank), Refusal::NotReady)?;
+    refuse_if(register_differs(rank), Refusal::Register)?;
+    refuse_if(chip_out(chip), Refusal::Chip)
 }
 
 // Of fault: 12, 13, 14, 1, 3, 4.
-pub fn of_fault(rank: Rank, memory: &[u8], line: u32, chip: u32, pattern: &[u8]) -> u32
-    ensures { result ≡ fault_refusal rank memory.now line chip pattern.now }
+pub fn of_fault(
+    rank: Rank,
+    memory: &[u8],
+    line: u32,
+    chip: u32,
+    pattern: &[u8],
+) -> Result<(), Refusal>
+    ensures { number_in result ≡ fault_refusal rank memory.now line chip pattern.now }
 {
-    let lined = of_line(rank, memory, line);
-    let chip_refused = chip_out(chip);
-    let before = or_if(lined, chip_refused, CHIP);
-    or_if(before, pattern.len() != CHIP_BYTES, PATTERN)
+    of_line(rank, memory, line)?;
+    refuse_if(chip_out(chip), Refusal::Chip)?;
+    refuse_if(pattern.len() != CHIP_BYTES, Refusal::Pattern)
 }
 
 // What write and fault begin with: 12, 13, 14, 1.
-fn of_line(rank: Rank, memory: &[u8], line: u32) -> u32
-    ensures { result ≡ first_of (line_refusals rank memory.now line) }
+fn of_line(rank: Rank, memory: &[u8], line: u32) -> Result<(), Refusal>
+    ensures { number_in result ≡ first_of (line_refusals rank memory.now line) }
 {
-    let before = of_state(rank, memory);
-    or_if(before, rank.lines <= line, LINE)
-}
-
-// The refusal that came before, if there is one, or a number if its condition holds.
-fn or_if(before: u32, holds: bool, number: u32) -> u32
-    ensures { result ≡ first_of (before ∷ refused_if holds number ∷ []) }
-{
-    if before != 0 {
-        return before;
-    }
-    if holds {
-        return number;
-    }
-    0
+    of_state(rank, memory)?;
+    refuse_if(rank.lines <= line, Refusal::Line)
 }
 
 // Of the record and the memory: 12, 13, 14.
-fn of_state(rank: Rank, memory: &[u8]) -> u32
-    ensures { result ≡ first_of (state_refusals rank memory.now) }
+fn of_state(rank: Rank, memory: &[u8]) -> Result<(), Refusal>
+    ensures { number_in result ≡ first_of (state_refusals rank memory.now) }
 {
-    if not_ready(rank) {
-        return NOT_READY;
-    }
-    let lines = rank.lines;
-    if memory.len() != LINE_BYTES * (lines as usize) {
-        return MEMORY;
-    }
-    if register_differs(rank) {
-        return REGISTER;
-    }
-    0
+    refuse_if(not_ready(rank), Refusal::NotReady)?;
+    refuse_if(memory_differs(rank, memory), Refusal::Memory)?;
+    refuse_if(register_differs(rank), Refusal::Register)
+}
+
+// A refusal, if its condition holds.
+fn refuse_if(holds: bool, refusal: Refusal) -> Result<(), Refusal>
+    ensures { number_in result ≡ refused_if holds (number_of refusal) }
+{
+    if holds { Err(refusal) } else { Ok(()) }
 }
 
 // 2: the line buffer is not 64 bytes.
+#[tactic(auto, unfolding(crate::specs::Refusals::buffer_out))]
 fn buffer_out(buffer: &[u8]) -> bool
     ensures { result ≡ buffer_out buffer.now }
 {
@@ -142,6 +129,7 @@ fn buffer_out(buffer: &[u8]) -> bool
 }
 
 // 3: the chip is not below 9.
+#[tactic(auto, unfolding(crate::specs::Refusals::chip_out))]
 fn chip_out(chip: u32) -> bool
     ensures { result ≡ chip_out chip }
 {
@@ -149,46 +137,33 @@ fn chip_out(chip: u32) -> bool
 }
 
 // 11: the memory is empty, no multiple of 81, or over the most lines.
+#[tactic(auto, unfolding(crate::specs::Refusals::memory_out))]
 fn memory_out(memory: &[u8]) -> bool
     ensures { result ≡ memory_out memory.now }
 {
-    if memory.len() == 0 {
-        return true;
-    }
-    if memory.len() % LINE_BYTES != 0 {
-        return true;
-    }
-    (Rank::LINE_LIMIT as usize) < memory.len() / LINE_BYTES
+    let bytes = memory.len();
+    bytes == 0 || bytes % LINE_BYTES != 0 || (Rank::LINE_LIMIT as usize) < bytes / LINE_BYTES
 }
 
 // 12: Enable is clear, or N is outside 1 to the most lines.
+#[tactic(auto, unfolding(crate::specs::Refusals::not_ready))]
 fn not_ready(rank: Rank) -> bool
     ensures { result ≡ not_ready rank }
 {
-    let enabled = rank.enable;
-    if !Rank::is_line_count(rank.lines) {
-        return true;
-    }
-    !enabled
+    !rank.enable || !Rank::is_line_count(rank.lines)
+}
+
+// 13: the memory is not 81 × N bytes.
+#[tactic(auto, unfolding(crate::specs::Refusals::memory_differs))]
+fn memory_differs(rank: Rank, memory: &[u8]) -> bool
+    ensures { result ≡ memory_differs rank memory.now }
+{
+    memory.len() != LINE_BYTES * rank.lines as usize
 }
 
 // 14: a register differs from its catch-word.
 fn register_differs(rank: Rank) -> bool
     ensures { result ≡ register_differs rank }
 {
-    let registers = rank.registers;
-    let catch_words = rank.catch_words;
-    differs(registers, catch_words)
-}
-
-// Whether one of nine registers differs from its catch-word.
-fn differs(registers: [u64; CHIPS], catch_words: [u64; CHIPS]) -> bool
-    ensures { result ≡ ltb 0 (count (λ k. not (eqb (get_or registers k 0) (get_or catch_words k 0))) chips) }
-{
-    for k in 0..CHIPS {
-        if registers[k] != catch_words[k] {
-            return true;
-        }
-    }
-    false
+    rank.registers != rank.catch_words
 }

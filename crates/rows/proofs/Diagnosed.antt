@@ -11,9 +11,10 @@ use native.Mathlib.Omega.{arith}
 use lib.Bits.{bit_and, bit_xor}
 use lib.Count.{ones, count_trailing_zeros}
 use lib.Dec.{eqb, leb}
-use lib.ListN.{length, get_or, set, length-set}
+use lib.ListN.{get_or}
+use Rattle.std.specs.Prelude.{Option, Some, None, IfSome}
+use Rattle.std.proofs.lemmas.Bool.{false_from_ne_true}
 use borrow.Author.Tests.{eq-eqb, ne_eqb, eqb-true, eqb-false}
-use Rattle.code.specs.Code.{check_of}
 use Rattle.code.specs.TestLaws.{and_first, and_second}
 use Rattle.code.specs.XorLaws.{xor_cancel_r}
 use Rattle.code.specs.Lists.{up_from, without, sum_of}
@@ -29,6 +30,8 @@ use Rattle.line.specs.declared.Outcome.{Outcome}
 use Rattle.line.specs.declared.Outcome.TheVariants.{Answered, Uncorrectable}
 use Rattle.line.specs.declared.Finding.TheVariants.{Undecided}
 use Rattle.memory.specs.Lines.{line_at}
+use Rattle.cells.specs.declared.places.Places.{Places}
+use Rattle.rows.specs.Blamed.{IsLowest, IsPut, IsRebuilt}
 use Rattle.rows.specs.Rows.{row_first, row_size, other_lines, evidence_of}
 use Rattle.rows.proofs.RowLaws.{others_size, others_few}
 use Rattle.line.proofs.Places.{placed_set, checked_set}
@@ -109,102 +112,79 @@ module _ (e : Evidence) (m cws : List ℕ) where
   unfolding outcome_by blamed_chips
   rebuilt_outcome x = ap (λ (b : Bool). cond b Uncorrectable Answered) (mask_eqb (is_blamed e m cws))
 
-  -- the words and check bytes of pass three, with those of the blamed chip in its place
-  module _ (x : ℕ) (ws cs : List ℕ) (ex : x ≡ xor_all (pass_three m cws) 9) (ew : AtPlaces (is_flagged m cws) (pass_three m cws) ws 9)
-      (ec : ChecksAt (is_flagged m cws) ws cs) (n : length ws ≡ 9) (q : length cs ≡ 9) where
-    -- the mask, its lowest chip and that chip's word
-    abbrev blamed : ℕ
-    blamed = mask (is_blamed e m cws) 9
+  -- the outcome, the words and the check bytes after the diagnosis
+  pub record Rebuilt (x : ℕ) (o : Outcome) (places : Places) : Type 0 where
+    pub outcome : o ≡ outcome_by (Undecided x) e m cws
+    pub words : AtPlaces (is_flagged m cws) (word_by (Undecided x) e m cws) places.words 9
+    pub checks : ChecksIfAnswered o (is_flagged m cws) places.words places.checks
 
-    abbrev lowest : ℕ
-    lowest = count_trailing_zeros 32 blamed
+  -- the mask of the blamed chip
+  abbrev blamed : ℕ
+  blamed = mask (is_blamed e m cws) 9
 
-    abbrev word : ℕ
-    word = bit_xor x (get_or ws lowest 0)
+  taken : {k : ℕ} → 0 < blamed → k ≡ count_trailing_zeros 32 blamed → TakenOff blamed k (blamed - 2 ^ count_trailing_zeros 32 blamed)
+  taken some ek =
+      subst⁻¹ (λ (i : ℕ). TakenOff blamed i (blamed - 2 ^ count_trailing_zeros 32 blamed)) ek (lowest_chip blamed some (mask_lt (is_blamed e m cws) 9))
 
-    pub record Rebuilt (o : Outcome) (ws' cs' : List ℕ) : Type 0 where
-      pub words : AtPlaces (is_flagged m cws) (word_by (Undecided x) e m cws) ws' 9
-      pub checks : ChecksIfAnswered o (is_flagged m cws) ws' cs'
-      pub sizes : (length ws' ≡ 9) × (length cs' ≡ 9)
+  pub blamed_below : (r : Option ℕ) → IsLowest blamed r → IfSome r (λ k. k < 9)
+  blamed_below None none = tt
+  blamed_below (Some k) one = (taken one.0 one.1).below
 
+  -- the words and check bytes of pass three stand at the flagged chips' places
+  module _ (x : ℕ) (before : Places) (ex : x ≡ xor_all (pass_three m cws) 9) (ew : AtPlaces (is_flagged m cws) (pass_three m cws) before.words 9)
+      (ec : ChecksAt (is_flagged m cws) before.words before.checks) where
     -- nobody is blamed
-    none_rebuilt : blamed ≡ 0 → Rebuilt Uncorrectable ws cs
+    none_rebuilt : blamed ≡ 0 → Rebuilt x Uncorrectable before
     unfolding word_by
     none_rebuilt z =
         record {
+          outcome = ap (λ (b : Bool). cond b Uncorrectable Answered) (sym (eq-eqb blamed 0 z)) ∙ rebuilt_outcome x;
           words = record {
             at = λ k l t.
                 ew.at k l t
                 ∙ sym (ap (λ (b : Bool). cond b (xor_others (pass_three m cws) k) (pass_three m cws k)) (count_none (is_blamed e m cws) 9 (mask_count _ 9 z) k l));
           };
           checks = λ a. absurd (true≢false (sym (ap (λ (o : Outcome). if_answered o true false) a)));
-          sizes = (n, q);
         }
 
-    module _ (some : blamed ≢ 0) where
-      taken : TakenOff blamed lowest (blamed - 2 ^ lowest)
-      taken = lowest_chip blamed (omega (arith, some)) (mask_lt (is_blamed e m cws) 9)
+    -- chip k is
+    module _ {k : ℕ} (some : 0 < blamed) (ek : k ≡ count_trailing_zeros 32 blamed) where
+      below : k < 9
+      below = (taken some ek).below
 
-      is_blamed_lem : is_blamed e m cws lowest ≡ true
-      is_blamed_lem = sym (in_mask_lem (is_blamed e m cws) 9 lowest taken.below) ∙ taken.member
+      is_blamed_lem : is_blamed e m cws k ≡ true
+      is_blamed_lem = sym (in_mask_lem (is_blamed e m cws) 9 k below) ∙ (taken some ek).member
 
       -- no other chip is
-      not_blamed_lem : (j : ℕ) → j < 9 → j ≢ lowest → is_blamed e m cws j ≡ false
-      not_blamed_lem j l ne = by (is_blamed e m cws j) refl
-        where
-          by : (b : Bool) → is_blamed e m cws j ≡ b → is_blamed e m cws j ≡ false
-          by true t = absurd (ne (blamed_one e m cws j lowest l taken.below t is_blamed_lem))
-          by false t = t
+      not_blamed_lem : (j : ℕ) → j < 9 → j ≢ k → is_blamed e m cws j ≡ false
+      not_blamed_lem j l ne = false_from_ne_true (is_blamed e m cws j) (λ t. ne (blamed_one e m cws j k l below t is_blamed_lem))
 
-      is_word : word ≡ word_by (Undecided x) e m cws lowest
+      is_word : bit_xor x (get_or before.words k 0) ≡ word_by (Undecided x) e m cws k
       unfolding word_by xor_others
       is_word =
-          ap₂ bit_xor (ex ∙ xor_all_but (pass_three m cws) 9 lowest taken.below) (ew.at lowest taken.below (blamed_flagged e m cws lowest is_blamed_lem))
-          ∙ xor_cancel_r _ (pass_three m cws lowest)
-          ∙ sym (ap (λ (b : Bool). cond b (xor_others (pass_three m cws) lowest) (pass_three m cws lowest)) is_blamed_lem)
+          ap₂ bit_xor (ex ∙ xor_all_but (pass_three m cws) 9 k below) (ew.at k below (blamed_flagged e m cws k is_blamed_lem))
+          ∙ xor_cancel_r _ (pass_three m cws k)
+          ∙ sym (ap (λ (b : Bool). cond b (xor_others (pass_three m cws) k) (pass_three m cws k)) is_blamed_lem)
 
-      one_rebuilt : Rebuilt Answered (set ws lowest word) (set cs lowest (check_of word))
+      one_rebuilt : {after : Places} → IsPut k x before after → Rebuilt x Answered after
       unfolding word_by
-      one_rebuilt =
+      one_rebuilt put =
           record {
+            outcome = ap (λ (b : Bool). cond b Uncorrectable Answered) (sym (ne_eqb blamed 0 (λ z. omega (arith, some)))) ∙ rebuilt_outcome x;
             words =
-                placed_set (is_flagged m cws) ws lowest word n taken.below (word_by (Undecided x) e m cws) is_word
+                placed_set (is_flagged m cws) before.words put.words put.there.0 (word_by (Undecided x) e m cws) is_word
                 (λ j l t ne.
                 ew.at j l t
                 ∙ sym (ap (λ (b : Bool). cond b (xor_others (pass_three m cws) j) (pass_three m cws j)) (not_blamed_lem j l ne)));
-            checks = λ a. checked_set (is_flagged m cws) ws lowest word n taken.below cs q refl (λ j l t ne. ec.at j l t);
-            sizes = (length-set ws lowest word ∙ n, length-set cs lowest (check_of word) ∙ q);
+            checks = λ a.
+                checked_set (is_flagged m cws) before.words put.words put.there.0 before.checks put.checks put.there.1 refl (λ j l t ne. ec.at j l t);
           }
 
-    -- either way
-    rebuilt : Rebuilt (cond (eqb blamed 0) Uncorrectable Answered) (cond (eqb blamed 0) ws (set ws lowest word)) (cond (eqb blamed 0) cs (set cs lowest (check_of word)))
-    rebuilt = by (eqb blamed 0) refl
-      where
-        by : (b : Bool) → eqb blamed 0 ≡ b
-            → Rebuilt (cond b Uncorrectable Answered) (cond b ws (set ws lowest word)) (cond b cs (set cs lowest (check_of word)))
-        by true z = none_rebuilt (eqb-true blamed 0 z)
-        by false z = one_rebuilt (eqb-false blamed 0 z)
-
-    -- what the code leaves, by the mask b that it made
-    module _ {b : ℕ} (eb : b ≡ blamed) where
-      abbrev chip : ℕ
-      chip = count_trailing_zeros 32 b
-
-      pub rebuilt_as : {o : Outcome} {ws' cs' : List ℕ} → o ≡ cond (eqb b 0) Uncorrectable Answered
-          → ws' ≡ cond (eqb b 0) ws (set ws chip (bit_xor x (get_or ws chip 0)))
-          → cs' ≡ cond (eqb b 0) cs (set cs chip (check_of (bit_xor x (get_or ws chip 0))))
-          → (o ≡ outcome_by (Undecided x) e m cws) × Rebuilt o ws' cs'
-      rebuilt_as {o} {ws'} {cs'} eo es et =
-          let o_is : o ≡ cond (eqb blamed 0) Uncorrectable Answered = eo ∙ ap (λ (i : ℕ). cond (eqb i 0) Uncorrectable Answered) eb in
-          let ws_is : ws' ≡ cond (eqb blamed 0) ws (set ws lowest word) =
-          es ∙ ap (λ (i : ℕ). cond (eqb i 0) ws (set ws (count_trailing_zeros 32 i) (bit_xor x (get_or ws (count_trailing_zeros 32 i) 0)))) eb in
-          let cs_is : cs' ≡ cond (eqb blamed 0) cs (set cs lowest (check_of word)) =
-          et ∙ ap (λ (i : ℕ). cond (eqb i 0) cs (set cs (count_trailing_zeros 32 i) (check_of (bit_xor x (get_or ws (count_trailing_zeros 32 i) 0))))) eb in (
-            o_is ∙ rebuilt_outcome x,
-            subst⁻¹ (λ (y : Outcome). Rebuilt y ws' cs') o_is
-                (subst⁻¹ (λ (y : List ℕ). Rebuilt (cond (eqb blamed 0) Uncorrectable Answered) y cs') ws_is
-                (subst⁻¹ (λ (y : List ℕ). Rebuilt (cond (eqb blamed 0) Uncorrectable Answered) (cond (eqb blamed 0) ws (set ws lowest word)) y) cs_is rebuilt)),
-          )
+    -- what the code leaves, by the chip that it took for the blamed one
+    pub rebuilt_as : (r : Option ℕ) {o : Outcome} {after : Places} → IsLowest blamed r → IsRebuilt r x before after o → Rebuilt x o after
+    rebuilt_as None {o} {after} none left =
+        subst⁻¹ (λ (y : Outcome). Rebuilt x y after) left.0 (subst⁻¹ (Rebuilt x Uncorrectable) left.1 (none_rebuilt none))
+    rebuilt_as (Some k) {o} {after} one left = subst⁻¹ (λ (y : Outcome). Rebuilt x y after) left.0 (one_rebuilt one.0 one.1 left.1)
 
 -- ---- the row of line l in a memory m of n lines: it begins at line f and ends before line t
 
@@ -239,9 +219,8 @@ module _ (n l : ℕ) (m cws : List ℕ) (below : l < n) {f t : ℕ} (ef : f ≡ 
     reaching_is q = q ∙ mask_ext _ _ 9 (λ k b. ap₂ (λ (i j : ℕ). leb i (10 * j)) others_are (counts_are k b))
 
     -- the mask that the code makes is that of the blamed chip
-    pub blamed_made : {g r b : ℕ} → g ≡ mask (is_flagged (line_at m l) cws) 9 → r ≡ mask (λ k. leb (t - f - 1) (10 * get_or counts k 0)) 9
-        → b ≡ cond (eqb (t - f - 1) 0) 0 (cond (eqb (ones r) 1) (bit_and g r) 0) → b ≡ mask (is_blamed evidence (line_at m l) cws) 9
-    blamed_made {g} {r} {b} eg er eb =
-        eb
-        ∙ (λ i. cond (eqb (others_are i) 0) 0 (cond (eqb (ones (reaching_is er i)) 1) (bit_and (eg i) (reaching_is er i)) 0))
+    pub blamed_made : {g r : ℕ} → g ≡ mask (is_flagged (line_at m l) cws) 9 → r ≡ mask (λ k. leb (t - f - 1) (10 * get_or counts k 0)) 9
+        → cond (eqb (t - f - 1) 0) 0 (cond (eqb (ones r) 1) (bit_and g r) 0) ≡ mask (is_blamed evidence (line_at m l) cws) 9
+    blamed_made {g} {r} eg er =
+        (λ i. cond (eqb (others_are i) 0) 0 (cond (eqb (ones (reaching_is er i)) 1) (bit_and (eg i) (reaching_is er i)) 0))
         ∙ blamed_mask evidence (line_at m l) cws

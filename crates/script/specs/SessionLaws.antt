@@ -1,43 +1,20 @@
 -- Laws of sessions: bytes fed one after the other, and the bytes that are kept of a line.
 -- Assumes nothing.
-use Rattle.std.specs.Prelude.{◌≡◌, refl, Bool, true, false, cond, eqb, drop}
-use Rattle.std.proofs.Math.Path.{sym, ap, ap₂}
-use Rattle.std.proofs.Common.{◌∙◌, subst, le_refl, length-append, length-take, take_all, take-add, take_at, length-take-le, drop-cons, drop-drop, get_or-drop}
-use mathlib.Core.List.{List, [], ◌∷◌, ◌++◌, append-nil, append_assoc}
-use Prim.Native.Nat.{ℕ, zero, suc, ◌+◌, ◌-◌, ◌≤◌, ◌<◌, zero-le}
-use Rattle.std.proofs.Math.Nat.{sub_self, zero-sub, sub-zero, suc-sub-suc}
-use native.Mathlib.Omega.{arith}
-use Rattle.std.proofs.Math.Arith.{lt_of_le-ne}
-use Rattle.std.proofs.Math.ListN.{length, get_or, take, length-drop}
-use Rattle.std.proofs.lemmas.List.Edits.{sets-eq}
-use Rattle.std.proofs.Math.Seq.{take-length}
-use Rattle.events.specs.Places.{index_of, index_after, slice}
-use Rattle.record.specs.declared.Rank.{Rank}
+use Rattle.std.specs.Prelude.{◌≡◌, refl, Bool, true, false, cond, List, [], ◌∷◌, ◌++◌, ℕ, zero, suc, ◌+◌, ◌-◌, ◌≤◌, ◌<◌, min, eqb, length, take}
+use Rattle.std.proofs.Common.{sym, subst, ap, ap₂, ◌∙◌, arith, append-nil, append_assoc, length-append, length-take, length-take-le, take-take, take_all, take_at}
+use Rattle.std.proofs.Math.Nat.{sub-zero, zero-sub, suc-sub-suc}
+use Rattle.std.proofs.lemmas.List.{take_min}
+use Rattle.events.specs.Places.{index_of, index_after, Cut}
 use Rattle.events.specs.Fields.{line_feed}
-use Rattle.events.specs.FieldLaws.{place_holds}
+use Rattle.events.specs.FieldLaws.{cut_parts}
 use Rattle.events.specs.EventLaws.{kept_event}
-use Rattle.texts.specs.Texts.{Laid}
-use Rattle.texts.specs.TextLaws.{laid_none, laid_then}
+use Rattle.record.specs.declared.Rank.{Rank}
+use Rattle.texts.specs.Outputs.{HasRoom}
+use Rattle.texts.specs.TextLaws.{prints_none, prints_then}
+use Rattle.texts.specs.declared.Output.{Output}
 use Rattle.answers.specs.Answers.{Reply, reply_by, reply_to, Replies}
-use Rattle.script.specs.Sessions.{Session, goes_on, ends, ends_by, fed, finished_by, finished, start, output_of, Stands, Follows, part, Advance, Finish}
-use Rattle.answers.specs.declared.Answered.{Answered}
-use Rattle.events.specs.declared.Event.{Event}
+use Rattle.script.specs.Sessions.{Session, goes_on, ends, ends_by, fed, finished_by, finished, start, output_of, Stands, Follows, Advance, Finish}
 use Rattle.script.specs.declared.sessions.Progress.{Progress}
-
--- ---- parts of the input
-
-part_none : (s : List ℕ) (a : ℕ) → part s a a ≡ []
-unfolding part
-part_none s a = ap (λ (k : ℕ). take k (drop a s)) (sub_self a)
-
-part_add : (s : List ℕ) (a b e : ℕ) → a ≤ b → b ≤ e → part s a e ≡ part s a b ++ part s b e
-unfolding part
-part_add s a b e h g =
-    let n : e - a ≡ (b - a) + (e - b) = omega arith in
-    let m : a + (b - a) ≡ b = omega arith in
-    ap (λ (k : ℕ). take k (drop a s)) n
-    ∙ take-add (b - a) (e - b) (drop a s)
-    ∙ ap (λ (t : List ℕ). take (b - a) (drop a s) ++ take (e - b) t) (drop-drop (b - a) a s ∙ ap (λ (k : ℕ). drop k s) m)
 
 -- ---- sessions
 
@@ -69,33 +46,18 @@ unfolding fed index_of
 fed_line g [] = nothing_more g
 fed_line g (b ∷ bs) = line_step (eqb b line_feed) g b bs (index_of line_feed bs) refl (fed_line (goes_on g (b ∷ [])) bs)
 
--- the line that begins at place a of s ends at place e
-module _ (s : List ℕ) (a e : ℕ) (end : e ≡ a + index_of line_feed (slice a (length s) s)) where
-  line_length : e - a ≡ index_of line_feed (drop a s)
-  unfolding slice
-  line_length = let n = ap (λ (t : List ℕ). index_of line_feed (drop a t)) (take-length s) in omega (arith, n)
+-- without one none ends
+fed_whole : (g : Session) (s : List ℕ) → index_of line_feed s ≡ length s → fed g s ≡ goes_on g s
+fed_whole g s none =
+    let all : take (index_of line_feed s) s ≡ s = take_all (index_of line_feed s) s (omega arith) in
+    ap (fed g) (sym all) ∙ fed_line g s ∙ ap (goes_on g) all
 
-  fed_part : (g : Session) → fed g (part s a e) ≡ goes_on g (part s a e)
-  unfolding part
-  fed_part g = rw line_length (fed_line g (drop a s))
-
-  feed_at : e < length s → part s e (e + 1) ≡ line_feed ∷ []
-  unfolding part
-  feed_at l =
-      let place : a + index_of line_feed (drop a s) ≡ e = omega (arith, line_length, end) in
-      let here : index_of line_feed (drop a s) < length (drop a s) = omega (arith, length-drop a s) in
-      let byte : get_or s e 0 ≡ line_feed =
-      ap (λ (k : ℕ). get_or s k 0) (sym place) ∙ sym (get_or-drop a s (index_of line_feed (drop a s)) 0) ∙ place_holds line_feed (drop a s) here in
-      let one : e + 1 - e ≡ 1 = omega arith in
-      ap₂ (λ (k : ℕ) (t : List ℕ). take k t) one (drop-cons s e 0 l) ∙ ap (λ (b : ℕ). b ∷ []) byte
-
-  fed_end : (g : Session) → e < length s → fed g (part s a (e + 1)) ≡ ends (goes_on g (part s a e))
-  unfolding fed
-  fed_end g l =
-      let from : a ≤ e = omega arith in
-      ap (fed g) (part_add s a e (e + 1) from (omega arith) ∙ ap (λ (t : List ℕ). part s a e ++ t) (feed_at l))
-      ∙ fed_append g (part s a e) (line_feed ∷ [])
-      ∙ ap (λ (x : Session). fed x (line_feed ∷ [])) (fed_part g)
+-- at one it ends
+fed_end : {s end behind : List ℕ} → Cut line_feed s end behind → (g : Session) → fed g (end ++ (line_feed ∷ [])) ≡ ends (goes_on g end)
+unfolding fed
+fed_end {s} {end} h g =
+    let line : fed g end ≡ goes_on g end = rw h.before_is (fed_line g s) in
+    fed_append g end (line_feed ∷ []) ∙ ap (λ (x : Session). fed x (line_feed ∷ [])) line
 
 -- ---- the bytes kept of a line
 
@@ -105,40 +67,43 @@ take_append (suc k) [] xs = ap (λ (n : ℕ). take n xs) (sym (sub-zero (suc k))
 take_append (suc k) (x ∷ s) xs =
     ap (λ (t : List ℕ). x ∷ t) (take_append k s xs ∙ ap (λ (n : ℕ). take k s ++ take n xs) (sym (suc-sub-suc k (length s))))
 
--- bytes xs were laid behind n bytes of a line, as many as fit
-module _ {l l' : List ℕ} {n r : ℕ} (xs : List ℕ) (size : length l ≡ 41) (most : n ≤ 41) (h : Laid l n (take (length l - n) xs) l' r) where
-  kept_size : r ≤ 41
-  kept_size = omega (arith, h.behind, length-take (length l - n) xs)
+-- bytes xs are laid behind the first k bytes of a line, as many as fit
+pub kept_view : (b xs : List ℕ) (k n : ℕ) (rest : List ℕ) → length b ≡ 41 → k ≤ 41 → n ≡ min (length xs) (41 - k)
+    → take (k + n) (take k b ++ (take n xs ++ rest)) ≡ take 41 (take k b ++ xs)
+kept_view b xs k n rest size most fits =
+    let front : length (take k b) ≡ k = length-take-le k b (omega arith) in
+    let laid : length (take k b ++ take n xs) ≡ k + n = omega (arith, length-append (take k b) (take n xs), front, length-take n xs) in
+    let same : take n xs ≡ take (41 - length (take k b)) xs =
+    ap (λ (m : ℕ). take m xs) (fits ∙ omega (arith, front)) ∙ take_min (41 - length (take k b)) xs in
+    ap (take (k + n)) (sym (append_assoc (take k b) (take n xs) rest))
+    ∙ take_at (take k b ++ take n xs) rest (k + n) laid
+    ∙ ap₂ ◌++◌ (sym (take_all 41 (take k b) (omega (arith, front)))) same
+    ∙ sym (take_append 41 (take k b) xs)
 
-  -- n bytes of the line were the first 41 of s; all are the first 41 of s and xs
-  kept_more : (s : List ℕ) → take n l ≡ take 41 s → take r l' ≡ take 41 (s ++ xs)
-  kept_more s same =
-      let t : List ℕ = take (length l - n) xs in
-      let front : length (take n l) ≡ n = length-take-le n l (omega arith) in
-      let left : 41 - length s ≡ length l - n = omega (arith, front, ap length same, length-take 41 s) in
-      let room : n + length t ≤ length l = omega (arith, length-take (length l - n) xs) in
-      ap₂ (λ (k : ℕ) (m : List ℕ). take k m) h.behind (h.bytes ∙ sets-eq t l n room)
-      ∙ take_at (take n l ++ t) (drop (n + length t) l) (n + length t) (length-append (take n l) t ∙ ap (λ (k : ℕ). k + length t) front)
-      ∙ ap₂ (λ (u : List ℕ) (k : ℕ). u ++ take k xs) same (sym left)
-      ∙ sym (take_append 41 s xs)
+-- the first 41 bytes tell those of the line that goes on
+kept_more : {l : List ℕ} (s xs : List ℕ) → l ≡ take 41 s → take 41 (l ++ xs) ≡ take 41 (s ++ xs)
+kept_more {l} s xs e =
+    let left : 41 - length (take 41 s) ≡ 41 - length s = omega (arith, length-take 41 s) in
+    ap (λ (x : List ℕ). take 41 (x ++ xs)) e
+    ∙ take_append 41 (take 41 s) xs
+    ∙ ap₂ (λ (x : List ℕ) (k : ℕ). x ++ take k xs) (take-take 41 41 s (omega arith)) left
+    ∙ sym (take_append 41 s xs)
 
 -- the reply to a line is that to its first 41 bytes
 reply_kept : (s : List ℕ) {t : List ℕ} {r q : Rank} {m n : List ℕ} → t ≡ take 41 s → r ≡ q → m ≡ n → reply_to t r m ≡ reply_to s q n
 unfolding reply_to
 reply_kept s {t} {r} {q} {m} {n} e f h =
-    ap (λ (u : List ℕ). reply_to u r m) e ∙ ap (λ (v : Event). reply_by v r m) (kept_event s) ∙ ap₂
-    (λ (x : Rank) (y : List ℕ). reply_to s x y) f h
+    ap (λ (u : List ℕ). reply_to u r m) e ∙ ap (λ v. reply_by v r m) (kept_event s) ∙ ap₂ (λ (x : Rank) (y : List ℕ). reply_to s x y) f h
 
 -- a session whose line ends
-stands_ended : (g : Session) {q : Reply} {m' l' o o' : List ℕ} {a : Answered} {k : ℕ} → q ≡ reply_to g.begun g.rank g.memory
-    → Replies q a m' k o o'
-    → Stands (ends g) a.rank 0 m' l'
+stands_ended : (g : Session) {q : Reply} {r : Rank} {l m' : List ℕ} {o o' : Output} → q ≡ reply_to g.begun g.rank g.memory
+    → Replies q r m' o o' → l ≡ [] → Stands (ends g) (record { rank = r; line = l }) m'
 unfolding ends ends_by
-stands_ended g same h =
+stands_ended g same h e =
     record {
       rank_is = h.record_is ∙ ap (λ (x : Reply). x.rank) same;
       memory_is = h.memory_is ∙ ap (λ (x : Reply). x.memory) same;
-      begun_is = refl;
+      begun_is = e;
     }
 
 prints_ended : (g : Session) {q : Reply} → q ≡ reply_to g.begun g.rank g.memory → (ends g).printed ≡ g.printed ++ q.text
@@ -147,153 +112,118 @@ prints_ended g same = ap (λ (x : Reply). g.printed ++ x.text) (sym same)
 
 -- ---- a run over one line
 
-module _ (p : Progress) (bytes l o l' : List ℕ) (e kept : ℕ) (size : length l ≡ 41) (most : p.kept ≤ 41) (room : p.length + 33 ≤ length o)
-    (end : e ≡ p.taken + index_of line_feed (slice p.taken (length bytes) bytes)) (within : e ≤ length bytes)
-    (laid : Laid l p.kept (take (length l - p.kept) (part bytes p.taken e)) l' kept) where
-  kept_is : {g : Session} {m : List ℕ} → Stands g p.rank p.kept m l → take kept l' ≡ take 41 (g.begun ++ part bytes p.taken e)
-  kept_is {g} h = kept_more (part bytes p.taken e) size most laid g.begun h.begun_is
+-- the line goes on
+pub advance_on : {p : Progress} {s l : List ℕ} (m : List ℕ) (o : Output) → index_of line_feed s ≡ length s → l ≡ take 41 (p.line ++ s)
+    → Advance p (record { rank = p.rank; line = l }) s [] m o m o
+unfolding goes_on
+advance_on {p} {s} m o none e =
+    record {
+      taken = s;
+      parts = sym (append-nil s);
+      text = [];
+      laid = prints_none o;
+      follows = record {
+        stands = λ g h.
+            rw (fed_whole g s none)
+            (record { rank_is = h.rank_is; memory_is = h.memory_is; begun_is = e ∙ kept_more g.begun s h.begun_is });
+        prints = λ g h. ap (λ (x : Session). x.printed) (fed_whole g s none) ∙ sym (append-nil g.printed);
+      };
+    }
 
-  -- the line goes on
-  pub advance_on : (m : List ℕ) → Advance p (record { rank = p.rank; kept = kept; taken = e; length = p.length }) bytes m l o m l' o
-  unfolding goes_on
-  advance_on m =
-      record {
-        kept_most = kept_size (part bytes p.taken e) size most laid;
-        taken_least = omega arith;
-        taken_most = within;
-        length_most = omega arith;
-        text = [];
-        laid = laid_none o p.length;
-        follows = record {
-          stands = λ g h.
-              rw (fed_part bytes p.taken e end g) (record { rank_is = h.rank_is; memory_is = h.memory_is; begun_is = kept_is h });
-          prints = λ g h. ap (λ (x : Session). x.printed) (fed_part bytes p.taken e end g) ∙ sym (append-nil g.printed);
-        };
-      }
-
-  -- the line ends
-  pub advance_end : {m m' o' : List ℕ} {a : Answered} → (e ≡ length bytes → ⊥) → a.length ≤ p.length + 33
-      → Replies (reply_to (take kept l') p.rank m) a m' p.length o o'
-      → Advance p (record { rank = a.rank; kept = 0; taken = e + 1; length = a.length }) bytes m l o m' l' o'
-  unfolding goes_on
-  advance_end {m} {m'} {o'} {a} inner short h =
-      let below : e < length bytes = lt_of_le-ne within inner in
-      let xs : List ℕ = part bytes p.taken e in
-      let same : (g : Session) → Stands g p.rank p.kept m l → reply_to (take kept l') p.rank m ≡ reply_to (g.begun ++ xs) g.rank
-      g.memory = λ g at. reply_kept (g.begun ++ xs) (kept_is at) at.rank_is at.memory_is in
-      record {
-        kept_most = zero-le;
-        taken_least = omega arith;
-        taken_most = omega arith;
-        length_most = omega arith;
-        text = (reply_to (take kept l') p.rank m).text;
-        laid = h.output_is;
-        follows = record {
-          stands = λ g at. rw (fed_end bytes p.taken e end g below) (stands_ended (goes_on g xs) (same g at) h);
-          prints = λ g at.
-              ap (λ (x : Session). x.printed) (fed_end bytes p.taken e end g below) ∙ prints_ended (goes_on g xs) (same g at);
-        };
-      }
+-- the line ends
+pub advance_end : {p : Progress} {s end behind l l' m m' : List ℕ} {o o' : Output} {r : Rank} → Cut line_feed s end behind
+    → l ≡ take 41 (p.line ++ end) → Replies (reply_to l p.rank m) r m' o o' → l' ≡ []
+    → Advance p (record { rank = r; line = l' }) s behind m o m' o'
+unfolding goes_on
+advance_end {p} {s} {end} {behind} {l} {l'} {m} cut e h none =
+    let same : (g : Session) → Stands g p m → reply_to l p.rank m ≡ reply_to (g.begun ++ end) g.rank g.memory =
+    λ g at. reply_kept (g.begun ++ end) (e ∙ kept_more g.begun end at.begun_is) at.rank_is at.memory_is in
+    record {
+      taken = end ++ (line_feed ∷ []);
+      parts = cut_parts cut;
+      text = (reply_to l p.rank m).text;
+      laid = h.output_is;
+      follows = record {
+        stands = λ g at. rw (fed_end cut g) (stands_ended (goes_on g end) (same g at) h none);
+        prints = λ g at. ap (λ (x : Session). x.printed) (fed_end cut g) ∙ prints_ended (goes_on g end) (same g at);
+      };
+    }
 
 -- ---- a run over several lines
 
 -- nothing was taken up
-pub follows_none : (p : Progress) (s m l : List ℕ) (a : ℕ) → Follows p p (part s a a) [] m l m l
+pub follows_none : (p : Progress) (m : List ℕ) → Follows p p [] [] m m
 unfolding fed
-follows_none p s m l a =
-    record {
-      stands = λ g h. rw (part_none s a) h;
-      prints = λ g h. rw (part_none s a) (sym (append-nil g.printed));
-    }
+follows_none p m = record { stands = λ g h. h; prints = λ g h. sym (append-nil g.printed) }
 
 -- one part behind another
-pub follows_then : {p q r : Progress} {t t' m₀ l₀ m l m' l' : List ℕ} (s : List ℕ) (a b e : ℕ) → a ≤ b → b ≤ e
-    → Follows p q (part s a b) t m₀ l₀ m l → Follows q r (part s b e) t' m l m' l'
-    → Follows p r (part s a e) (t ++ t') m₀ l₀ m' l'
-follows_then {p} {q} {r} {t} {t'} {m₀} {l₀} {m} {l} {m'} {l'} s a b e h k f n =
-    let both : (g : Session) → fed g (part s a e) ≡ fed (fed g (part s a b)) (part s b e) =
-    λ g. ap (fed g) (part_add s a b e h k) ∙ fed_append g (part s a b) (part s b e) in
+pub follows_then : {p q r : Progress} {s s' t t' m m' m'' : List ℕ} → Follows p q s t m m' → Follows q r s' t' m' m''
+    → Follows p r (s ++ s') (t ++ t') m m''
+follows_then {p} {q} {r} {s} {s'} {t} {t'} f n =
     record {
-      stands = λ g at. rw (both g) (n.stands (fed g (part s a b)) (f.stands g at));
+      stands = λ g at. rw (fed_append g s s') (n.stands (fed g s) (f.stands g at));
       prints = λ g at.
-          ap (λ (x : Session). x.printed) (both g)
-          ∙ n.prints (fed g (part s a b)) (f.stands g at)
+          ap (λ (x : Session). x.printed) (fed_append g s s')
+          ∙ n.prints (fed g s) (f.stands g at)
           ∙ ap (λ (x : List ℕ). x ++ t') (f.prints g at)
           ∙ append_assoc g.printed t t';
     }
 
 -- all of the input was taken up
-pub follows_whole : {p r : Progress} {s t m l m' l' : List ℕ} (e : ℕ) → length s ≤ e → Follows p r (part s 0 e) t m l m' l'
-    → Follows p r s t m l m' l'
-unfolding part
-follows_whole {p} {r} {s} {t} {m} {l} {m'} {l'} e h f =
-    subst (λ (x : List ℕ). Follows p r x t m l m' l') (ap (λ (k : ℕ). take k s) (sub-zero e) ∙ take_all e s h) f
+pub follows_whole : {p r : Progress} {s m m' : List ℕ} {o o' : Output} → (a : Advance p r s [] m o m' o') → Follows p r s a.text m m'
+follows_whole {p} {r} {s} {m} {m'} a =
+    subst (λ (x : List ℕ). Follows p r x a.text m m') (sym (append-nil a.taken) ∙ sym a.parts) a.follows
 
--- a run that goes on from start has come to p
-pub record Going (start p : Progress) (bytes m₀ l₀ o₀ m l o : List ℕ) : Type 0 where
-  pub advance : Advance start p bytes m₀ l₀ o₀ m l o
-  pub memory_size : length m ≡ length m₀
-  pub line_size : length l ≡ 41
-  pub out_size : length o ≡ length o₀
-  pub unmoved : p.taken ≡ start.taken → p.length ≡ start.length
+pub advance_none : (p : Progress) (bytes m : List ℕ) (o : Output) → Advance p p bytes bytes m o m o
+advance_none p bytes m o = record { taken = []; parts = refl; text = []; laid = prints_none o; follows = follows_none p m }
 
-pub going_none : (start : Progress) (bytes m l o : List ℕ) → start.kept ≤ 41 → start.taken ≤ length bytes → start.length + 33 ≤ length o
-    → length l ≡ 41
-    → Going start start bytes m l o m l o
-going_none start bytes m l o kept taken room size =
+pub advance_then : {p q r : Progress} {bytes rest rest' m m' m'' : List ℕ} {o o' o'' : Output} → Advance p q bytes rest m o m' o'
+    → Advance q r rest rest' m' o' m'' o'' → Advance p r bytes rest' m o m'' o''
+advance_then {p} {q} {r} {bytes} {rest} {rest'} a b =
     record {
-      advance = record {
-        kept_most = kept;
-        taken_least = le_refl start.taken;
-        taken_most = taken;
-        length_most = omega arith;
-        text = [];
-        laid = laid_none o start.length;
-        follows = follows_none start bytes m l start.taken;
-      };
-      memory_size = refl;
-      line_size = size;
-      out_size = refl;
-      unmoved = λ e. refl;
+      taken = a.taken ++ b.taken;
+      parts = a.parts ∙ ap (λ (x : List ℕ). a.taken ++ x) b.parts ∙ sym (append_assoc a.taken b.taken rest');
+      text = a.text ++ b.text;
+      laid = prints_then a.laid b.laid;
+      follows = follows_then a.follows b.follows;
     }
 
-pub going_more : {start p r : Progress} {bytes m₀ l₀ o₀ m l o m' l' o' : List ℕ} → Going start p bytes m₀ l₀ o₀ m l o
-    → Advance p r bytes m l o m' l' o'
-    → p.taken < r.taken → length m' ≡ length m → length l' ≡ length l → length o' ≡ length o → Going start r bytes m₀ l₀ o₀ m' l' o'
-going_more {start} {p} {r} {bytes} {m₀} {l₀} {o₀} {m} {l} {o} {m'} {l'} {o'} h a moved em el eo =
-    let before : Advance start p bytes m₀ l₀ o₀ m l o = h.advance in
+pub advance_length : {p r : Progress} {bytes rest m m' : List ℕ} {o o' : Output} (a : Advance p r bytes rest m o m' o')
+    → length bytes ≡ length a.taken + length rest
+advance_length {p} {r} {bytes} {rest} a = ap length a.parts ∙ length-append a.taken rest
+
+-- a run that goes on from start has come to p, with a rest of the bytes left. Where nothing was taken up the output has its room.
+pub record Going (start p : Progress) (bytes rest m₀ : List ℕ) (o₀ : Output) (m : List ℕ) (o : Output) : Type 0 where
+  pub advance : Advance start p bytes rest m₀ o₀ m o
+  pub memory_size : length m ≡ length m₀
+  pub unmoved : length rest ≡ length bytes → HasRoom o
+
+pub going_none : (start : Progress) (bytes m : List ℕ) (o : Output) → HasRoom o → Going start start bytes bytes m o m o
+going_none start bytes m o room = record { advance = advance_none start bytes m o; memory_size = refl; unmoved = λ e. room }
+
+pub going_more : {start p r : Progress} {bytes rest rest' m₀ m m' : List ℕ} {o₀ o o' : Output} → Going start p bytes rest m₀ o₀ m o
+    → Advance p r rest rest' m o m' o' → length rest' < length rest → length m' ≡ length m → Going start r bytes rest' m₀ o₀ m' o'
+going_more h a moved e =
     record {
-      advance = record {
-        kept_most = a.kept_most;
-        taken_least = omega (arith, before.taken_least);
-        taken_most = a.taken_most;
-        length_most = omega (arith, a.length_most, h.out_size);
-        text = before.text ++ a.text;
-        laid = laid_then before.laid a.laid;
-        follows = follows_then bytes start.taken p.taken r.taken before.taken_least a.taken_least before.follows
-            a.follows;
-      };
-      memory_size = em ∙ h.memory_size;
-      line_size = el ∙ h.line_size;
-      out_size = eo ∙ h.out_size;
-      unmoved = λ e. absurd (omega (arith, before.taken_least));
+      advance = advance_then h.advance a;
+      memory_size = e ∙ h.memory_size;
+      unmoved = λ same. absurd (omega (arith, advance_length h.advance));
     }
 
 -- ---- the end of the input
 
 none_begun : (s : List ℕ) → [] ≡ take 41 s → s ≡ []
 none_begun [] e = refl
-none_begun (b ∷ s) e = let z : ◌≡◌ {A = ℕ} 0 1 = cc in absurd (omega arith)
+none_begun (b ∷ s) e = cc
 
-pub finish_none : (p : Progress) (m l o : List ℕ) → p.kept ≡ 0 → p.length + 33 ≤ length o → Finish p p.length m l o m o
+pub finish_none : {p : Progress} (m : List ℕ) (o : Output) → p.line ≡ [] → Finish p m o m o
 unfolding finished finished_by
-finish_none p m l o e room =
-    let same : (g : Session) → Stands g p.rank p.kept m l → finished g ≡ g =
-    λ g h. ap (λ (s : List ℕ). finished_by s g) (none_begun g.begun (ap (λ (k : ℕ). take k l) (sym e) ∙ h.begun_is)) in
+finish_none {p} m o e =
+    let same : (g : Session) → Stands g p m → finished g ≡ g =
+    λ g h. ap (λ (s : List ℕ). finished_by s g) (none_begun g.begun (sym e ∙ h.begun_is)) in
     record {
-      length_most = omega arith;
       text = [];
-      laid = laid_none o p.length;
+      laid = prints_none o;
       memory_is = λ g h. h.memory_is ∙ ap (λ (x : Session). x.memory) (sym (same g h));
       prints = λ g h. ap (λ (x : Session). x.printed) (same g h) ∙ sym (append-nil g.printed);
     }
@@ -303,33 +233,28 @@ unfolding finished_by
 some_begun [] g h = absurd (h refl)
 some_begun (b ∷ s) g h = refl
 
-pub finish_line : {p : Progress} {m l o m' o' : List ℕ} {a : Answered} → (p.kept ≡ 0 → ⊥) → p.kept ≤ 41 → length l ≡ 41
-    → p.length + 33 ≤ length o → a.length ≤ p.length + 33
-    → Replies (reply_to (take p.kept l) p.rank m) a m' p.length o o' → Finish p a.length m l o m' o'
+pub finish_line : {p : Progress} {m m' : List ℕ} {o o' : Output} {r : Rank} → (p.line ≡ [] → ⊥) → Replies (reply_to p.line p.rank m) r m' o o'
+    → Finish p m o m' o'
 unfolding finished
-finish_line {p} {m} {l} {o} {m'} {o'} {a} some most size room short h =
-    let reply : (g : Session) → Stands g p.rank p.kept m l → reply_to (take p.kept l) p.rank m ≡ reply_to g.begun g.rank
-    g.memory = λ g at. reply_kept g.begun at.begun_is at.rank_is at.memory_is in
-    let same : (g : Session) → Stands g p.rank p.kept m l → finished g ≡ ends g =
-    λ g at.
-    some_begun g.begun g (λ e. some
-    (sym (length-take-le p.kept l (omega arith)) ∙ ap length (at.begun_is ∙ ap (λ (s : List ℕ). take 41 s) e))) in
+finish_line {p} {m} some h =
+    let reply : (g : Session) → Stands g p m → reply_to p.line p.rank m ≡ reply_to g.begun g.rank g.memory =
+    λ g at. reply_kept g.begun at.begun_is at.rank_is at.memory_is in
+    let same : (g : Session) → Stands g p m → finished g ≡ ends g =
+    λ g at. some_begun g.begun g (λ e. some (at.begun_is ∙ ap (λ (s : List ℕ). take 41 s) e)) in
     record {
-      length_most = omega arith;
-      text = (reply_to (take p.kept l) p.rank m).text;
+      text = (reply_to p.line p.rank m).text;
       laid = h.output_is;
-      memory_is = λ g at. (stands_ended g {l' = l} (reply g at) h).memory_is ∙ ap (λ (x : Session). x.memory) (sym (same g at));
+      memory_is = λ g at. (stands_ended g {l = []} (reply g at) h refl).memory_is ∙ ap (λ (x : Session). x.memory) (sym (same g at));
       prints = λ g at. ap (λ (x : Session). x.printed) (same g at) ∙ prints_ended g (reply g at);
     }
 
 -- ---- a whole input
 
 -- what a run that begins with no line begun prints for the input and at its end is all that is printed for it
-pub whole_output : {p r : Progress} {s t m l m' l' o m'' o' : List ℕ} {n : ℕ} → p.kept ≡ 0 → Follows p r s t m l m' l'
-    → (f : Finish r n m' l' o m'' o') → output_of p.rank m s ≡ t ++ f.text
+pub whole_output : {p r : Progress} {s t m m' m'' : List ℕ} {o o' : Output} → p.line ≡ [] → Follows p r s t m m'
+    → (f : Finish r m' o m'' o') → output_of p.rank m s ≡ t ++ f.text
 unfolding output_of start
-whole_output {p} {r} {s} {t} {m} {l} none h f =
+whole_output {p} {r} {s} {t} {m} none h f =
     let g : Session = start p.rank m in
-    let at : Stands g p.rank p.kept m l =
-    record { rank_is = refl; memory_is = refl; begun_is = ap (λ (k : ℕ). take k l) none } in
+    let at : Stands g p m = record { rank_is = refl; memory_is = refl; begun_is = none } in
     f.prints (fed g s) (h.stands g at) ∙ ap (λ (x : List ℕ). x ++ f.text) (h.prints g at)

@@ -1,105 +1,107 @@
 // A script's input, taken up part by part: the lines that end in it are answered, and the beginning of the line that goes on is kept.
-ghost use Rattle.std.specs.Prelude.{◌≡◌, ◌+◌, ◌-◌, ◌≤◌, ◌<◌, length, take};
-ghost use Rattle.texts.specs.Texts.{longest_text, Laid};
+ghost use Rattle.std.specs.Prelude.{◌≡◌, ◌<◌, ◌++◌, [], length, take};
+ghost use Rattle.texts.specs.Outputs.{HasRoom};
 ghost use Rattle.script.specs.Sessions.{Advance, Finish};
 
 use answers::answer;
-use events::places::find;
+use events::places::split_once;
 use record::Rank;
+use std::marker::Model;
+use texts::Output;
 
 // The bytes that are kept of a line. A longer line is no event, and neither are its first 41 bytes.
 pub const KEPT: usize = 41;
 
-// How far a run has come: the record, the bytes kept of the line that has begun, the bytes taken up of the input's part, and the bytes of
-// output.
-#[derive(Clone, Copy)]
+// The line that has begun: its first bytes, 41 at the most. Not `Copy`, which a type with a `Model` can't be yet.
+#[derive(Drop)]
+pub struct Line {
+    bytes: [u8; KEPT],
+    kept: usize,
+}
+
+impl Model for Line {
+    ghost use Rattle.std.specs.Prelude.{ℕ, ◌≤◌, List, take};
+
+    ghost Value = { List ℕ };
+
+    ghost view = { λ line. take line.kept line.bytes };
+
+    ghost invariant = { λ line. line.kept ≤ 41 };
+}
+
+impl Line {
+    // A line of which nothing has come.
+    pub fn new() -> Self
+        ensures { result ≡ [] }
+    {
+        Line {
+            bytes: [0; KEPT],
+            kept: 0,
+        }
+    }
+
+    // The bytes kept.
+    pub fn bytes(&self) -> &[u8]
+        ensures { result.now ≡ self.now }
+    {
+        &self.bytes[..self.kept]
+    }
+
+    // The line goes on with bytes, of which as many are kept as there is room for.
+    pub fn add(&mut self, bytes: &[u8])
+        ensures { self.new ≡ take 41 (self.old ++ bytes.now) }
+    {
+        let fitting = bytes.len().min(KEPT - self.kept);
+        let (from, end) = (self.kept, self.kept + fitting);
+        self.bytes[from..end].copy_from_slice(&bytes[..fitting]);
+        self.kept = end;
+    }
+
+    // Begins the next line.
+    pub fn clear(&mut self)
+        ensures { self.new ≡ [] }
+    {
+        self.kept = 0;
+    }
+}
+
+// How far a run has come: the record, and the line that has begun.
+#[derive(Drop)]
 pub struct Progress {
     pub rank: Rank,
-    pub kept: usize,
-    pub taken: usize,
-    pub length: usize,
+    pub line: Line,
 }
 
-// Takes up bytes of a part of the input, at least one where one is left, and answers the lines that end in them. How many it takes is left
-// open, and so are the bytes of `line` behind the kept ones.
-pub fn take_up(
-    start: Progress,
-    memory: &mut [u8],
-    line: &mut [u8],
-    bytes: &[u8],
-    out: &mut [u8],
-) -> Progress
-    requires line { (length line.old ≡ 41) × (start.kept ≤ 41) }
-    requires places { (start.taken ≤ length bytes.now) × (start.length + longest_text ≤ length out.old) }
-    ensures advance { Advance start result bytes.now memory.old line.old out.old
-        memory.new line.new out.new }
-    ensures moves { start.taken < length bytes.now → start.taken < result.taken }
-{
-    let mut p = start;
-    while p.taken < bytes.len() {
-        if out.len() - p.length < texts::LONGEST_TEXT {
-            return p;
+impl Progress {
+    // Takes up bytes of a part of the input, at least one where there is one, and answers the lines that end in them. How many it takes is
+    // left open: what is left of the part is answered.
+    pub fn take_up<'a>(&mut self, memory: &mut [u8], bytes: &'a [u8], out: &mut Output) -> &'a [u8]
+        requires { HasRoom out.old }
+        ensures advance { Advance self.old self.new bytes.now result.now memory.old out.old memory.new out.new }
+        ensures moves { 0 < length bytes.now → length result.now < length bytes.now }
+    {
+        let mut rest = bytes;
+        while let Some((end, behind)) = split_once(rest, b'\n') {
+            if !out.has_room() {
+                return rest;
+            }
+            self.line.add(end);
+            self.rank = answer(self.rank, memory, self.line.bytes(), out);
+            self.line.clear();
+            rest = behind;
         }
-        p = step(p, memory, line, bytes, out);
+        self.line.add(rest);
+        &[]
     }
-    p
-}
 
-// Answers the line that has begun, if one has, at the end of the input. Answers how many bytes of output there are then.
-pub fn finish(last: Progress, memory: &mut [u8], line: &[u8], out: &mut [u8]) -> usize
-    requires line { (length line.now ≡ 41) × (last.kept ≤ 41) }
-    requires room { last.length + longest_text ≤ length out.old }
-    ensures { Finish last result memory.old line.now out.old memory.new out.new }
-{
-    let kept = last.kept;
-    let used = last.length;
-    if kept == 0 {
-        return used;
+    // Answers the line that has begun, if one has, at the end of the input.
+    pub fn finish(&self, memory: &mut [u8], out: &mut Output)
+        requires { HasRoom out.old }
+        ensures { Finish self.now memory.old out.old memory.new out.new }
+    {
+        let line = self.line.bytes();
+        if !line.is_empty() {
+            let _ = answer(self.rank, memory, line, out);
+        }
     }
-    let answered = answer(last.rank, memory, &line[..kept], out, used);
-    answered.length
-}
-
-// Takes up the rest of the line that has begun, and answers it if it ends here.
-fn step(p: Progress, memory: &mut [u8], line: &mut [u8], bytes: &[u8], out: &mut [u8]) -> Progress
-    requires line { (length line.old ≡ 41) × (p.kept ≤ 41) }
-    requires places { (p.taken < length bytes.now) × (p.length + longest_text ≤ length out.old) }
-    ensures advance { Advance p result bytes.now memory.old line.old out.old
-        memory.new line.new out.new }
-    ensures moves { p.taken < result.taken }
-{
-    let from = p.taken;
-    let used = p.length;
-    let before = p.rank;
-    let end = find(bytes, from, bytes.len(), b'\n');
-    let kept = keep(line, p.kept, &bytes[from..end]);
-    if end == bytes.len() {
-        return Progress {
-            rank: before,
-            kept,
-            taken: end,
-            length: used,
-        };
-    }
-    let answered = answer(before, memory, &line[..kept], out, used);
-    let after = answered.rank;
-    Progress {
-        rank: after,
-        kept: 0,
-        taken: end + 1,
-        length: answered.length,
-    }
-}
-
-// Puts bytes behind the first n of a line, as many as there is room for. Answers how many the line has then.
-fn keep(line: &mut [u8], n: usize, bytes: &[u8]) -> usize
-    requires { n ≤ length line.old }
-    ensures laid { Laid line.old n (take (length line.old - n) bytes.now) line.new result }
-    ensures within { result ≤ length line.old }
-{
-    let room = line.len() - n;
-    if bytes.len() <= room {
-        return texts::put(line, n, bytes);
-    }
-    texts::put(line, n, &bytes[..room])
 }

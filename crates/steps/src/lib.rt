@@ -1,5 +1,5 @@
-// A visit to a line of the lent memory (document 01, "A visit to a line"), steps 1 to 6. Where the line's own bytes leave the outcome undecided,
-// its row is diagnosed (document 02, Req 04, crate `rows`).
+// A visit to a line of the lent memory (document 01, "A visit to a line"), steps 1 to 6. Where the line's own bytes leave the outcome
+// undecided, its row is diagnosed (document 02, Req 04, crate `rows`).
 #![tactic(auto)]
 
 ghost use Rattle.std.specs.Prelude.{◌≡◌, ◌+◌, ◌*◌, ◌≤◌, ◌<◌, length};
@@ -12,32 +12,24 @@ ghost use Rattle.memory.specs.Lines.{line_at, with_line};
 ghost use Rattle.rows.specs.Rows.{evidence_of, report_in, word_in, bytes_in};
 
 use cells::CHIPS;
+use cells::places::Places;
 use line::{Examined, Finding, Report};
 use rows::Decision;
 
 // Visits a line of a memory of so many lines: steps 1 to 6. What the report does to the record is left to the caller.
 pub fn visit(memory: &mut [u8], lines: u32, line: u32, catch_words: &[u64; CHIPS]) -> Report
-    requires { (line_bytes * lines ≤ length memory.old) × (line < lines) × (length catch_words.now ≡ chips) }
+    requires { (line_bytes * lines ≤ length memory.old) × (line < lines) }
     ensures report { result ≡ report_in lines memory.old line catch_words.now }
     ensures memory { memory.new
         ≡ with_line memory.old line (bytes_in lines memory.old line catch_words.now) }
 {
-    let mut words = [0u64; CHIPS];
-    let mut checks = [0u8; CHIPS];
+    let mut places = Places::empty();
     // Steps 1 to 5.
-    let examined = memory::examine(memory, line, catch_words, &mut words, &mut checks);
-    let decision = decide(
-        memory,
-        lines,
-        line,
-        catch_words,
-        examined,
-        &mut words,
-        &mut checks,
-    );
+    let examined = memory::examine(memory, line, catch_words, &mut places);
+    let decision = decide(memory, lines, line, catch_words, examined, &mut places);
     let outcome = decision.outcome;
     // Step 6.
-    memory::write_answered(memory, line, outcome, examined.flagged, &words, &checks);
+    memory::write_answered(memory, line, outcome, examined.flagged, &places);
     Report {
         outcome,
         passes: examined.passes + decision.passes,
@@ -53,21 +45,18 @@ fn decide(
     line: u32,
     catch_words: &[u64; CHIPS],
     examined: Examined,
-    words: &mut [u64; CHIPS],
-    checks: &mut [u8; CHIPS],
+    places: &mut Places,
 ) -> Decision
-    requires sizes { (line_bytes * lines ≤ length memory.now) × (line < lines) × (length catch_words.now ≡ chips) × (length words.old ≡ chips) × (length checks.old ≡ chips) }
+    requires sizes { (line_bytes * lines ≤ length memory.now) × (line < lines) }
     requires examined { examined ≡ examined_of (line_at memory.now line) catch_words.now }
-    requires words { AtPlaces (is_flagged (line_at memory.now line) catch_words.now) (own_word (line_at memory.now line) catch_words.now) words.old chips }
-    requires checks { ChecksUnlessRefused examined.finding (is_flagged (line_at memory.now line) catch_words.now) words.old checks.old }
+    requires words { AtPlaces (is_flagged (line_at memory.now line) catch_words.now) (own_word (line_at memory.now line) catch_words.now) places.old.words chips }
+    requires checks { ChecksUnlessRefused examined.finding (is_flagged (line_at memory.now line) catch_words.now) places.old.words places.old.checks }
     ensures outcome { result.outcome ≡ outcome_of (evidence_of lines memory.now line catch_words.now) (line_at memory.now line) catch_words.now }
     ensures passes { result.passes ≡ row_passes (finding_of (line_at memory.now line) catch_words.now) (evidence_of lines memory.now line catch_words.now) }
-    ensures words { AtPlaces (is_flagged (line_at memory.now line) catch_words.now) (word_in lines memory.now line catch_words.now) words.new chips }
-    ensures checks { ChecksIfAnswered result.outcome (is_flagged (line_at memory.now line) catch_words.now) words.new checks.new }
-    ensures sizes { (length words.new ≡ chips) × (length checks.new ≡ chips) }
+    ensures words { AtPlaces (is_flagged (line_at memory.now line) catch_words.now) (word_in lines memory.now line catch_words.now) places.new.words chips }
+    ensures checks { ChecksIfAnswered result.outcome (is_flagged (line_at memory.now line) catch_words.now) places.new.words places.new.checks }
 {
-    let finding = examined.finding;
-    match finding {
+    match examined.finding {
         Finding::Decided(outcome) => Decision { outcome, passes: 0 },
         Finding::Undecided(xor) => rows::diagnose(
             memory,
@@ -76,8 +65,7 @@ fn decide(
             catch_words,
             examined.flagged,
             xor,
-            words,
-            checks,
+            places,
         ),
     }
 }

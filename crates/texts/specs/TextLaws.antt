@@ -1,13 +1,15 @@
 -- Laws of texts laid in bytes, and of printed digits.
 -- Assumes nothing.
 use Rattle.std.specs.Prelude.{◌≡◌, refl, Bool, true, false, cond, List, [], ◌++◌, ℕ, ◌+◌, ◌-◌, ◌^◌, ◌≤◌, ◌<◌, min, max, ltb, length, take, drop}
-use Rattle.std.proofs.Common.{sym, ap₂, ◌∙◌, ⊎_elim, append-nil, append_assoc, le_refl, le_antisymm, eq-zero-or-pos, arith, lit<, length-append, length-take, drop_of_length-le, drop-drop, ltb-true, ltb-false}
+use Rattle.std.proofs.Common.{sym, ap, ap₂, ◌∙◌, ⊎_elim, append-nil, append_assoc, le_refl, le_antisymm, eq-zero-or-pos, arith, lit<, length-append, length-take, drop_of_length-le, drop-drop, ltb-true, ltb-false}
 use Rattle.std.proofs.Math.Nat.{pow-le-pow_right}
 use Rattle.std.proofs.lemmas.List.Edits.{sets, sets-eq}
-use Rattle.std.proofs.Math.Seq.{take-length}
+use Rattle.std.proofs.Math.Seq.{take-length, length-sets}
 use Rattle.io.specs.Digits.{IsDigitCount}
 use Rattle.words.specs.ByteLaws.{sets_append}
 use Rattle.texts.specs.Texts.{Laid}
+use Rattle.texts.specs.Outputs.{Prints}
+use Rattle.texts.specs.declared.Output.{Output}
 
 -- no text
 pub laid_none : (m : List ℕ) (a : ℕ) → Laid m a [] m a
@@ -21,9 +23,33 @@ laid_then {m} {n} {o} {xs} {ys} {a} {b} {c} h g =
       behind = omega (arith, h.behind, g.behind, length-append xs ys);
     }
 
+-- bytes keep their number
+pub laid_size : {m n xs : List ℕ} {a b : ℕ} → Laid m a xs n b → length n ≡ length m
+laid_size {m} {n} {xs} {a} h = ap length h.bytes ∙ length-sets m a xs
+
 -- a text may be given by one that it equals
 pub laid_as : {m n xs ys : List ℕ} {a b : ℕ} → xs ≡ ys → Laid m a xs n b → Laid m a ys n b
 laid_as {m} {n} {xs} {ys} {a} {b} e h = rw e at h
+
+-- ---- output
+
+-- no text
+pub prints_none : (o : Output) → Prints o [] o
+prints_none o = record { laid = laid_none o.buffer.now o.used; same_size = refl; same_buffer = refl }
+
+-- a text laid in lent bytes
+pub prints_by : {a b : Output} {xs : List ℕ} → Laid a.buffer.now a.used xs b.buffer.now b.used → b.buffer.ghost_name ≡ a.buffer.ghost_name
+    → Prints a xs b
+prints_by h e = record { laid = h; same_size = laid_size h; same_buffer = e }
+
+-- a text behind another
+pub prints_then : {a b c : Output} {xs ys : List ℕ} → Prints a xs b → Prints b ys c → Prints a (xs ++ ys) c
+prints_then h g =
+    record { laid = laid_then h.laid g.laid; same_size = g.same_size ∙ h.same_size; same_buffer = g.same_buffer ∙ h.same_buffer }
+
+-- a text may be given by one that it equals
+pub prints_as : {a b : Output} {xs ys : List ℕ} → xs ≡ ys → Prints a xs b → Prints a ys b
+prints_as e h = rw e at h
 
 -- ---- digits
 
@@ -62,6 +88,12 @@ hex_count n w k f h =
     le_antisymm (fewest_most 16 (min (max w 1) 16) n k w (lit< tt) f (omega arith) h.2) (omega (arith, f.0))
 
 -- ---- a text copied into a part of the bytes
+
+-- a text as long as a part of the bytes overwrites all of it
+pub over_all : (t m : List ℕ) (a : ℕ) → t ≡ take (length t) t ++ drop (length t) (take (a + length t - a) (drop a m))
+over_all t m a =
+    let most : length (take (a + length t - a) (drop a m)) ≤ length t = omega (arith, length-take (a + length t - a) (drop a m)) in
+    rw (drop_of_length-le (take (a + length t - a) (drop a m)) most, take-length, append-nil) refl
 
 -- the part from place a on is as long as the text, and was overwritten by it
 pub laid_part : {m p t : List ℕ} {a : ℕ} → a + length t ≤ length m

@@ -1,20 +1,59 @@
 // What the programs `vectors_code`, `vectors_line`, `vectors_rank` and `vectors_rows` share: words of a fixed sequence, a CRC-8 made
-// another way than that of `code`, and the line of output that says how many trials of a kind succeeded.
+// another way than that of `code`, the trials of a kind, and the line of output that says how many of them succeeded.
 #![tactic(auto)]
 
-use std::io;
-use std::io::Write;
+ghost use Rattle.std.specs.Prelude.{◌≡◌, ◌≤◌, Ok, Err, if◌then◌else◌, ◌==◌};
 
-// Prints what was tried, how many trials succeeded, and of how many.
-pub fn report(rt: &impl Print, what: &[u8], count: u64, n: u64) -> io::Result<()> {
-    let mut out = io::writer(rt);
-    out.write_all(what)?;
-    writeln!(out, ": {count} of {n}")
+use std::io;
+
+// What a visit to a line reports beside its outcome: the passes, and the masks of the chips that were flagged and that collided, bit K for
+// chip K.
+#[derive(Clone, Copy, PartialEq, Eq, Default)]
+pub struct Visit {
+    pub passes: u32,
+    pub flagged: u32,
+    pub collisions: u32,
 }
 
-// Whether the numbers that a visit or a call reports are those that are due.
-pub fn same_numbers(a: [u32; 4], b: [u32; 4]) -> bool {
-    a[0] == b[0] && a[1] == b[1] && a[2] == b[2] && a[3] == b[3]
+impl Visit {
+    pub fn new(passes: u32, flagged: u32, collisions: u32) -> Self
+        ensures passes { result.passes ≡ passes }
+        ensures flagged { result.flagged ≡ flagged }
+        ensures collisions { result.collisions ≡ collisions }
+    {
+        Visit {
+            passes,
+            flagged,
+            collisions,
+        }
+    }
+}
+
+// What a call of the C interface returned, whose number for no refusal is 0.
+pub fn outcome(number: u32) -> Result<(), u32>
+    ensures { result ≡ (if number == 0 then Ok tt else Err number) }
+{
+    if number == 0 { Ok(()) } else { Err(number) }
+}
+
+// Makes the n trials of a kind, numbered from 0, and prints how many succeeded.
+pub fn run<F: Fn(u64) -> bool>(rt: &impl Print, what: &str, n: u64, trial: F) -> io::Result<()>
+    requires { F.IsAlwaysCallable trial }
+{
+    print(rt, what, count_successes(n, trial), n)
+}
+
+// How many of the n trials succeed.
+fn count_successes<F: Fn(u64) -> bool>(n: u64, trial: F) -> u64
+    requires { F.IsAlwaysCallable trial }
+    ensures { result ≤ n }
+{
+    (0..n).filter(|i| trial(*i)).count() as u64
+}
+
+// Prints what was tried, how many trials succeeded, and of how many.
+pub fn print(rt: &impl Print, what: &str, count: u64, n: u64) -> io::Result<()> {
+    println!(rt; "{what}: {count} of {n}")
 }
 
 // A word of the fixed sequence: a number spread over the 64 bits by shifts and xors. The remainder keeps the product within them.
@@ -30,29 +69,12 @@ fn spread(word: u64) -> u64 {
 
 // The remainder of a word and a check byte, the CRC-8 of a shift register that takes the nine bytes bit by bit, the highest first.
 pub fn remainder(word: u64, check: u8) -> u8 {
-    let mut register = 0;
-    let mut left: u32 = 72;
-    while 0 < left {
-        left -= 1;
-        register = after_bit(register, bit(word, check, left));
-    }
-    register
-}
-
-// Bit i of the nine bytes, counted from the lowest.
-fn bit(word: u64, check: u8, i: u32) -> u8 {
-    if i < 8 {
-        return (check >> i) % 2;
-    }
-    if i < 72 {
-        ((word >> (i - 8)) % 2) as u8
-    } else {
-        0
-    }
+    let bytes = ((word as u128) << 8) | check as u128;
+    (0..72).rev().fold(0, |register, i| after_bit(register, (bytes >> i) & 1 == 1))
 }
 
 // The register after one bit more: where x^7 moves up to x^8, x^2 + x + 1 stands for it.
-fn after_bit(register: u8, bit: u8) -> u8 {
-    let moved = register % 128 * 2 + bit % 2;
-    if register < 128 { moved } else { moved ^ 0x07 }
+fn after_bit(register: u8, bit: bool) -> u8 {
+    let moved = (register << 1) | bit as u8;
+    if register < 0x80 { moved } else { moved ^ 0x07 }
 }

@@ -6,7 +6,8 @@ pub fn agrees(i: u64) -> bool {
     code::position((i % 256) as u8) == row[(i % 8) as usize]
 }
 
-// Row i has the positions of the eight syndromes from 8 × i on; 255 stands for no position.
+// Row i has the positions of the eight syndromes from 8 × i on. As it was then, 255 stands for no position, which document 01 names too
+// ("A form for each place").
 const TABLE: [[u8; 8]; 32] = [
     [255, 0, 1, 255, 2, 255, 255, 8],
     [3, 255, 255, 31, 255, 255, 9, 255],

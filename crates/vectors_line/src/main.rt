@@ -1,20 +1,16 @@
-// Lines laid and read back, and visits to a line, tried at run time on lines that are made with another CRC-8. Each line of output says what
-// was tried, how many trials succeeded, and of how many.
+// Lines laid and read back, and visits to a line, tried at run time on lines that are made with another CRC-8. Each line of output says
+// what was tried, how many trials succeeded, and of how many.
 #![tactic(auto)]
 
 use std::io;
+use trials::{Visit, run};
 
 mod lines;
 mod visits;
 
 fn main(rt: HostRuntime) -> io::Result<()> {
-    trials::report(&rt, b"a line laid and read back", reads_back(0) as u64, 1)?;
-    trials::report(
-        &rt,
-        b"collisions on all nine chips",
-        all_collide(0) as u64,
-        1,
-    )?;
+    run(&rt, "a line laid and read back", 1, reads_back)?;
+    run(&rt, "collisions on all nine chips", 1, all_collide)?;
     visits::report(&rt)
 }
 
@@ -31,5 +27,5 @@ fn reads_back(i: u64) -> bool {
 fn all_collide(i: u64) -> bool {
     let words = lines::words_of(i);
     let line = lines::laid(words);
-    visits::visit_leaves(line, words, [0, 2, 0, 0x1ff], line)
+    visits::visit_leaves(line, &words, Ok(()), Visit::new(2, 0, 0x1ff), line)
 }

@@ -81,9 +81,9 @@ parts_visited task n l cws totals s e e₁ e₂ e₃ =
 
 -- a visit to line l for a task takes the tally t and the memory s to u and x
 pub record Moves (task : ℕ) (t : Tally) (s : List ℕ) (l : ℕ) (u : Tally) (x : List ℕ) : Type 0 where
-  pub refused : u.refused ≡ t.refused + refused_by (visit_of task (device t.rank s) l).out.outcome
-  pub rewritten : u.rewritten
-      ≡ t.rewritten + rewritten_by (visit_of task (device t.rank s) l).out.outcome (visit_of task (device t.rank s) l).out.flagged
+  pub refused : u.counts.refused ≡ t.counts.refused + refused_by (visit_of task (device t.rank s) l).out.outcome
+  pub rewritten : u.counts.rewritten
+      ≡ t.counts.rewritten + rewritten_by (visit_of task (device t.rank s) l).out.outcome (visit_of task (device t.rank s) l).out.flagged
   pub after : device u.rank x ≡ (visit_of task (device t.rank s) l).now
 
 -- a visit to a clean line is left out: there is nothing to count
@@ -95,13 +95,13 @@ moves_clean {task} {t} {u} {s} {x} {l} size h words registers total same kept =
     clean_visit task t.rank s l size h words registers total in
     record {
       refused =
-          ap (λ (y : Tally). y.refused) same
-          ∙ sym (ap (λ (v : Did Device Report). t.refused + refused_by v.out.outcome) e ∙ add-zero t.refused);
+          ap (λ (y : Tally). y.counts.refused) same
+          ∙ sym (ap (λ (v : Did Device Report). t.counts.refused + refused_by v.out.outcome) e ∙ add-zero t.counts.refused);
       rewritten =
-          ap (λ (y : Tally). y.rewritten) same
-          ∙ sym (ap (λ (v : Did Device Report). t.rewritten + rewritten_by v.out.outcome v.out.flagged) e
-          ∙ ap (λ (n : ℕ). t.rewritten + n) no_ones
-          ∙ add-zero t.rewritten);
+          ap (λ (y : Tally). y.counts.rewritten) same
+          ∙ sym (ap (λ (v : Did Device Report). t.counts.rewritten + rewritten_by v.out.outcome v.out.flagged) e
+          ∙ ap (λ (n : ℕ). t.counts.rewritten + n) no_ones
+          ∙ add-zero t.counts.rewritten);
       after = ap₂ (λ (y : Tally) (z : List ℕ). device y.rank z) same kept ∙ sym (ap (λ (v : Did Device Report). v.now) e);
     }
 
@@ -113,16 +113,16 @@ pub record Swept (task : ℕ) (r : Rank) (m : List ℕ) (l n : ℕ) (t : Tally) 
   pub size : length s ≡ length m
   pub words : length t.rank.catch_words ≡ 9
   pub total : (j : ℕ) → get_or t.rank.repairs j 0 ≤ total_limit
-  pub few_refused : t.refused ≤ i
-  pub few_rewritten : t.rewritten ≤ 9 * i
-  pub refused : t.refused + refused_in (outs (visit_of task) (device t.rank s) (up_from (l + i) (n - i))) ≡ refused_in
+  pub few_refused : t.counts.refused ≤ i
+  pub few_rewritten : t.counts.rewritten ≤ 9 * i
+  pub refused : t.counts.refused + refused_in (outs (visit_of task) (device t.rank s) (up_from (l + i) (n - i))) ≡ refused_in
       (outs (visit_of task) (device r m) (up_from l n))
-  pub rewritten : t.rewritten + rewritten_in (outs (visit_of task) (device t.rank s) (up_from (l + i) (n - i))) ≡ rewritten_in
+  pub rewritten : t.counts.rewritten + rewritten_in (outs (visit_of task) (device t.rank s) (up_from (l + i) (n - i))) ≡ rewritten_in
       (outs (visit_of task) (device r m) (up_from l n))
   pub ends : end (visit_of task) (device t.rank s) (up_from (l + i) (n - i)) ≡ end (visit_of task) (device r m) (up_from l n)
 
 pub swept_none : (task : ℕ) (r : Rank) (m : List ℕ) (l n : ℕ) → length r.catch_words ≡ 9 → ((j : ℕ) → get_or r.repairs j 0 ≤ total_limit)
-    → Swept task r m l n (record { refused = 0; rewritten = 0; rank = r }) m 0
+    → Swept task r m l n (record { counts = record { refused = 0; rewritten = 0 }; rank = r }) m 0
 swept_none task r m l n words total =
     let e : up_from (l + 0) (n - 0) ≡ up_from l n = all_lines l n in
     record {
@@ -194,16 +194,16 @@ module _ {task : ℕ} {r : Rank} {m : List ℕ} {l n : ℕ} {t : Tally} {s : Lis
   none : up_from (l + i) (n - i) ≡ []
   none = no_lines l n i over
 
-  pub all_refused : t.refused ≡ refused_in (outs (visit_of task) (device r m) (up_from l n))
+  pub all_refused : t.counts.refused ≡ refused_in (outs (visit_of task) (device r m) (up_from l n))
   unfolding refused_in
   all_refused =
-      sym (ap (λ (ls : List ℕ). t.refused + refused_in (outs (visit_of task) (device t.rank s) ls)) none ∙ add-zero t.refused)
+      sym (ap (λ (ls : List ℕ). t.counts.refused + refused_in (outs (visit_of task) (device t.rank s) ls)) none ∙ add-zero t.counts.refused)
       ∙ h.refused
 
-  pub all_rewritten_lem : t.rewritten ≡ rewritten_in (outs (visit_of task) (device r m) (up_from l n))
+  pub all_rewritten_lem : t.counts.rewritten ≡ rewritten_in (outs (visit_of task) (device r m) (up_from l n))
   unfolding rewritten_in
   all_rewritten_lem =
-      sym (ap (λ (ls : List ℕ). t.rewritten + rewritten_in (outs (visit_of task) (device t.rank s) ls)) none ∙ add-zero t.rewritten)
+      sym (ap (λ (ls : List ℕ). t.counts.rewritten + rewritten_in (outs (visit_of task) (device t.rank s) ls)) none ∙ add-zero t.counts.rewritten)
       ∙ h.rewritten
 
   pub all_ended : device t.rank s ≡ end (visit_of task) (device r m) (up_from l n)

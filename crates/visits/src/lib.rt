@@ -4,7 +4,7 @@
 #![tactic(auto)]
 
 ghost use Rattle.std.specs.Prelude.{◌≡◌, ◌*◌, ◌≤◌, ◌<◌, length};
-ghost use Rattle.cells.specs.Cells.{chips, line_bytes};
+ghost use Rattle.cells.specs.Cells.{line_bytes};
 ghost use Rattle.memory.specs.Lines.{with_line};
 ghost use Rattle.rows.specs.Rows.{report_in, bytes_in};
 ghost use Rattle.visits.specs.Visits.{words_after};
@@ -16,8 +16,8 @@ use record::Rank;
 pub mod read;
 pub mod sweep;
 
-// What a read returns: a refusal by its number in document 01, 0 for none, the passes made, the flagged and collision masks, bit K for chip K,
-// and the record.
+// What a read returns: a refusal by its number in document 01, 0 for none, since an exported struct can't hold an enum, the passes made,
+// the flagged and collision masks, bit K for chip K, and the record.
 #[repr(C)]
 #[derive(Clone, Copy)]
 pub struct ReadResult {
@@ -28,10 +28,11 @@ pub struct ReadResult {
     pub rank: Rank,
 }
 
-// Visits a line: steps 1 to 6 in the memory and, in their place, for the catch-words. The totals are left to the caller (`record::count`), and
-// so are the registers: a read sets them (`record::set_registers`), a patrol makes its record from the catch-words (`record::accepted`).
+// Visits a line: steps 1 to 6 in the memory and, in their place, for the catch-words; a record by value would be copied. The totals are
+// left to the caller (`record::count`), and so are the registers: a read sets them (`record::set_registers`), a patrol makes its record
+// from the catch-words (`record::accepted`).
 pub fn visit(catch_words: &mut [u64; CHIPS], memory: &mut [u8], lines: u32, line: u32) -> Report
-    requires { (length catch_words.old ≡ chips) × (line_bytes * lines ≤ length memory.old) × (line < lines) }
+    requires { (line_bytes * lines ≤ length memory.old) × (line < lines) }
     ensures report { result ≡ report_in lines memory.old line catch_words.old }
     ensures catch_words { catch_words.new
         ≡ words_after (report_in lines memory.old line catch_words.old) catch_words.old }
@@ -39,7 +40,7 @@ pub fn visit(catch_words: &mut [u64; CHIPS], memory: &mut [u8], lines: u32, line
         ≡ with_line memory.old line (bytes_in lines memory.old line catch_words.old) }
 {
     let report = steps::visit(memory, lines, line, catch_words);
-    let outcome = report.outcome;
-    record::move_words(catch_words, line::refusal(outcome), report.collisions);
+    let refusal = line::refusal(report.outcome);
+    record::move_words(catch_words, refusal, report.collisions);
     report
 }

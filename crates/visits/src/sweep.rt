@@ -12,17 +12,31 @@ use line::{Outcome, Report};
 use record::Rank;
 
 // What a patrol has counted so far: the lines refused and the words rewritten.
-#[derive(Clone, Copy)]
+#[derive(Clone, Copy, PartialEq, Eq)]
 pub struct Counts {
     pub refused: u32,
     pub rewritten: u32,
 }
 
+impl Counts {
+    // Counts one visit more, by its report.
+    pub fn add(&mut self, report: Report)
+        requires { (self.old.refused + 1 < 2 ^ 32) × (self.old.rewritten + ones report.flagged < 2 ^ 32) }
+        ensures refused { self.new.refused ≡ self.old.refused + refused_by report.outcome }
+        ensures rewritten { self.new.rewritten ≡ self.old.rewritten + rewritten_by report.outcome report.flagged }
+    {
+        if let Outcome::Answered = report.outcome {
+            self.rewritten += report.flagged.count_ones();
+        } else {
+            self.refused += 1;
+        }
+    }
+}
+
 // What the visits of a patrol come to: the counts, and the record.
 #[derive(Clone, Copy)]
 pub struct Tally {
-    pub refused: u32,
-    pub rewritten: u32,
+    pub counts: Counts,
     pub rank: Rank,
 }
 
@@ -30,15 +44,15 @@ pub struct Tally {
 pub fn allowance(budget: u32, left: u32) -> u32
     ensures { result ≡ min budget left }
 {
-    if budget < left { budget } else { left }
+    budget.min(left)
 }
 
 // Visits n lines from a first line upwards, for one task. A refused line doesn't stop it.
 pub fn sweep(rank: Rank, memory: &mut [u8], task: u32, first: u32, n: u32) -> Tally
     requires { (rank.enable ≡ true) × (rank.registers ≡ rank.catch_words)
         × (line_bytes * rank.lines ≤ length memory.old) × (task < task_limit) × (first + n ≤ rank.lines) × (rank.lines ≤ line_limit) }
-    ensures refused { result.refused ≡ refused_in (outs (visit_of task) (device rank memory.old) (up_from first n)) }
-    ensures rewritten { result.rewritten ≡ rewritten_in (outs (visit_of task) (device rank memory.old) (up_from first n)) }
+    ensures refused { result.counts.refused ≡ refused_in (outs (visit_of task) (device rank memory.old) (up_from first n)) }
+    ensures rewritten { result.counts.rewritten ≡ rewritten_in (outs (visit_of task) (device rank memory.old) (up_from first n)) }
     ensures after { device result.rank memory.new
         ≡ end (visit_of task) (device rank memory.old) (up_from first n) }
 {
@@ -49,37 +63,17 @@ pub fn sweep(rank: Rank, memory: &mut [u8], task: u32, first: u32, n: u32) -> Ta
         refused: 0,
         rewritten: 0,
     };
-    for i in 0..n {
+    for line in first..first + n {
         // A visit to a clean line would change nothing, and there is nothing to count.
-        if !memory::is_clean(memory, first + i, &catch_words) {
-            let report = visit(&mut catch_words, memory, lines, first + i);
-            let outcome = report.outcome;
-            record::count(&mut totals, task, line::refusal(outcome), report.flagged);
-            counts = with_visit(counts, report);
+        if !memory::is_clean(memory, line, &catch_words) {
+            let report = visit(&mut catch_words, memory, lines, line);
+            let refusal = line::refusal(report.outcome);
+            record::count(&mut totals, task, refusal, report.flagged);
+            counts.add(report);
         }
     }
     Tally {
-        refused: counts.refused,
-        rewritten: counts.rewritten,
+        counts,
         rank: record::accepted(lines, catch_words, totals),
-    }
-}
-
-// The counts after one visit more, by its report.
-fn with_visit(counts: Counts, report: Report) -> Counts
-    requires { (counts.refused + 1 < 2 ^ 32) × (counts.rewritten + ones report.flagged < 2 ^ 32) }
-    ensures refused { result.refused ≡ counts.refused + refused_by report.outcome }
-    ensures rewritten { result.rewritten ≡ counts.rewritten + rewritten_by report.outcome report.flagged }
-{
-    let outcome = report.outcome;
-    let Outcome::Answered = outcome else {
-        return Counts {
-            refused: counts.refused + 1,
-            rewritten: counts.rewritten,
-        };
-    };
-    Counts {
-        refused: counts.refused,
-        rewritten: counts.rewritten + u32::count_ones(report.flagged),
     }
 }

@@ -1,15 +1,11 @@
--- `answers::answer_write` meets its contract. Assumes nothing.
-use native.Mathlib.Omega.{arith}
 use Rattle.answers.specs.AnswerLaws.{call_replies}
 use Rattle.answers.specs.SmallLaws.{write_small}
-use borrow.Author.Rules.{rules}
+use Rattle.std.proofs.Common.{arith}
 use Rattle.answers.proofs.answer_write.Goals as goal
 
-pub spell_call-length-requires : goal.spell_call-length-requires
-spell_call-length-requires c = (search rules, omega (arith, write_small _ _ _ _ c.rank_write-called.ensures.result))
+pub spell_call-requires : goal.spell_call-requires
+spell_call-requires c = (c.requires, omega (arith, write_small _ _ _ _ c.rank_write-called.ensures.result))
 
-pub returns : goal.returns
-returns c =
-    let at_spell = c.spell_call-length in
-    let at_call = c.rank_write-called in
-    record { reply = call_replies 119 at_call.ensures.result at_call.ensures.memory at_spell.ensures.laid; most = at_spell.ensures.most }
+pub returns-clause-reply : goal.returns-clause-reply
+returns-clause-reply c =
+    call_replies 119 c.rank_write-called.ensures.result c.rank_write-called.ensures.memory c.spell_call.ensures.laid

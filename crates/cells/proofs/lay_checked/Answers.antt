@@ -1,9 +1,6 @@
 -- `cells::lay_checked` meets its contract. Assumes nothing.
-use mathlib.Core.Path.{◌≡◌, sym, ap, ap₂, ◌∙◌}
-use mathlib.Core.List.{List, [], ◌∷◌}
-use Prim.Native.Nat.{ℕ, ◌+◌, ◌*◌}
-use lib.ListN.{set}
-use lib.Seq.{sets}
+use Rattle.std.proofs.Common.{◌≡◌, sym, ap, ap₂, ◌∙◌, List, [], ◌∷◌, ℕ, ◌+◌, ◌*◌, set}
+use Rattle.std.proofs.lemmas.List.Edits.{sets}
 use Rattle.code.specs.Code.{check_of}
 use Rattle.cells.specs.Cells.{with_chip, codeword}
 use Rattle.words.specs.Bytes.{bytes_of}

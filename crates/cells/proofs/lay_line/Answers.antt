@@ -1,12 +1,6 @@
 -- `cells::lay_line` meets its contract. Assumes nothing.
-use mathlib.Core.Path.{◌≡◌, refl, sym, ap, ap₂, ◌∙◌}
-use mathlib.Core.List.{List}
-use Prim.Native.Nat.{ℕ, ◌*◌}
-use native.Mathlib.Omega.{arith}
-use lib.Bits.{bit_xor}
-use lib.Dec.{lit<}
-use lib.Seq.{sets}
-use native.Mathlib.Nat.{le_antisymm}
+use Rattle.std.proofs.Common.{◌≡◌, refl, sym, ap, ap₂, ◌∙◌, List, ℕ, ◌*◌, arith, rules, bit_xor, lit<, le_antisymm}
+use Rattle.std.proofs.lemmas.List.Edits.{sets}
 use Rattle.code.specs.Code.{check_of}
 use Rattle.code.proofs.CodeLaws.{check_lt}
 use Rattle.cells.specs.Chips.{xor_all}
@@ -29,7 +23,7 @@ lay_checked-requires c =
     let d : List ℕ = c.args.bytes.now in
     let checks = c.of_eight-eight.ensures in
     let own : (j : ℕ) → ℕ = λ j. check_of (word_every 8 d j) in record {
-      sizes = (c.loop-k.invariant.0.size ∙ c.requires.0, omega (arith, c.loop-k-test.true));
+      chip = omega (arith, c.loop-k-test.true);
       check = c.of_word.ensures ∙ ap₂ (λ (e o : ℕ). in_checks e o c.loop-k.k) checks.even checks.odd
           ∙ checks_at own (λ j. check_lt (word_every 8 d j)) c.loop-k.k c.loop-k-test.true
           ∙ ap check_of (sym c.load_word-word.ensures);
@@ -42,7 +36,7 @@ lay_checked-requires-2 c =
     let d : List ℕ = c.args.bytes.now in
     let checks = c.of_eight-eight.ensures in
     let parity = upto_all c.loop-k.invariant.1 c.loop-k-test.false in record {
-      sizes = (c.loop-k.invariant.0.size ∙ c.requires.0, lit< tt);
+      chip = lit< tt;
       check = c.across.ensures ∙ ap₂ (λ (e o : ℕ). xor_lanes (bit_xor e o)) checks.even checks.odd
           ∙ across_xor (λ j. check_of (word_every 8 d j)) (λ j. check_lt (word_every 8 d j))
           ∙ checks_xor (word_every 8 d) 8
@@ -55,7 +49,7 @@ loop-k-preserved c =
     let l = c.loop-k in
     let taken = c.loop-k-test.true in
     let word = c.load_word-word.ensures in
-    let chip_k = ap codeword (word ∙ sym (line_word_eight c.args.bytes.now c.requires.1 l.k taken)) in (
+    let chip_k = ap codeword (word ∙ sym (line_word_eight c.args.bytes.now (search rules) l.k taken)) in (
       blocks_store (chip c.args.bytes.now) 9 9 c.args.line.now (λ j i. length_codeword _) (omega arith) l.invariant.0 (omega arith)
           (c.lay_checked.ensures ∙ ap (sets l.line (9 * l.k)) chip_k),
       xor_more (eight_at c.args.bytes.now) l.invariant.1 taken word,
@@ -70,4 +64,4 @@ returns c =
     upto_all l.invariant.1 c.loop-k-test.false ∙ ap (line_word c.args.bytes.now) (sym e) in
     let last = blocks_store (chip c.args.bytes.now) 9 9 c.args.line.now (λ j i. length_codeword _) (omega arith) l.invariant.0 (omega arith)
     (c.lay_checked-2.ensures ∙ ap₂ (λ (i w : ℕ). sets l.line (9 * i) (codeword w)) (sym e) parity) in
-    blocks_all (chip c.args.bytes.now) 9 9 c.args.line.now (λ j i. length_codeword _) (omega arith) last (omega arith) c.requires.0
+    blocks_all (chip c.args.bytes.now) 9 9 c.args.line.now (λ j i. length_codeword _) (omega arith) last (omega arith) (search rules)

@@ -1,5 +1,4 @@
-use mathlib.Core.List.{List}
-use Prim.Native.Nat.{ℕ, ◌-◌}
+use Rattle.std.proofs.Common.{List, ℕ, ◌-◌}
 use Rattle.cells.specs.Chips.{xor_all}
 use Rattle.cells.specs.Cells.{codeword, eight_at, line_word}
 use Rattle.cells.proofs.Loops.{Blocks, Upto}

@@ -1,10 +1,6 @@
 -- `cells::read_line` meets its contract. Assumes nothing.
-use mathlib.Core.Path.{◌≡◌, ap, ◌∙◌}
-use mathlib.Core.List.{List}
-use Prim.Native.Nat.{ℕ, ◌*◌, ◌<◌}
-use native.Mathlib.Omega.{arith}
-use lib.ListN.{length}
-use lib.Seq.{sets}
+use Rattle.std.proofs.Common.{◌≡◌, ap, ◌∙◌, List, ℕ, ◌*◌, ◌<◌, arith, rules, length}
+use Rattle.std.proofs.lemmas.List.Edits.{sets}
 use Rattle.words.specs.Bytes.{bytes_of}
 use Rattle.cells.specs.Cells.{word_at, line_of}
 use Rattle.words.specs.ByteLaws.{length_bytes_from, bytes_bytes_from, bytes_of_number}
@@ -20,14 +16,14 @@ unfolding word_at
 loop-k-preserved c =
     let l = c.loop-k in
     let m : List ℕ = c.args.line.now in
-    let back = bytes_of_number (word m l.k) 8 (bytes_bytes_from 8 (9 * l.k) m (λ i. (c.shared_slice_known-1.given i).fits)) (long m c.requires.0 l.k c.loop-k-test.true) in
-    blocks_store (word m) 8 8 c.args.buffer.now (long m c.requires.0) (omega arith) l.invariant c.loop-k-test.true
+    let back = bytes_of_number (word m l.k) 8 (bytes_bytes_from 8 (9 * l.k) m (search rules)) (long m (search rules) l.k c.loop-k-test.true) in
+    blocks_store (word m) 8 8 c.args.buffer.now (long m (search rules)) (omega arith) l.invariant c.loop-k-test.true
     (c.store_word.ensures ∙ ap (λ (v : ℕ). sets l.buffer (8 * l.k) (bytes_of 8 v)) c.word_at.ensures ∙ ap (sets l.buffer (8 * l.k)) back)
 
 pub returns : goal.returns
 unfolding line_of
 returns c =
-    blocks_all (word c.args.line.now) 8 8 c.args.buffer.now (long c.args.line.now c.requires.0) (omega arith) c.loop-k.invariant c.loop-k-test.false c.requires.1
+    blocks_all (word c.args.line.now) 8 8 c.args.buffer.now (long c.args.line.now (search rules)) (omega arith) c.loop-k.invariant c.loop-k-test.false (search rules)
 
 pub loop-k-init : goal.loop-k-init
 loop-k-init c = blocks_none _ _ _ _

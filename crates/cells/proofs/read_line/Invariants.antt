@@ -1,5 +1,4 @@
-use mathlib.Core.List.{List}
-use Prim.Native.Nat.{ℕ, ◌*◌, ◌-◌}
+use Rattle.std.proofs.Common.{List, ℕ, ◌*◌, ◌-◌}
 use Rattle.words.specs.Bytes.{bytes_from}
 use Rattle.cells.proofs.Loops.{Blocks}
 use Rattle.cells.proofs.read_line.Given as goal

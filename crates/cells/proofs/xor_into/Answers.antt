@@ -1,11 +1,6 @@
 -- `cells::xor_into` meets its contract. Assumes nothing.
-use mathlib.Core.Path.{◌≡◌, refl, ap, ◌∙◌}
-use mathlib.Core.List.{List}
-use Prim.Native.Nat.{ℕ, ◌+◌, ◌*◌, zero-le}
-use native.Mathlib.Omega.{arith}
-use lib.Bits.{bit_xor}
-use lib.ListN.{get_or, set, length-set}
-use lib.Seq.{sets, take_all}
+use Rattle.std.proofs.Common.{◌≡◌, refl, ap, ◌∙◌, List, ℕ, ◌+◌, ◌*◌, zero-le, arith, bit_xor, get_or, set, length-set, take_all}
+use Rattle.std.proofs.lemmas.List.Edits.{sets}
 use Rattle.cells.specs.Cells.{chip_at, with_chip}
 use Rattle.words.specs.Bytes.{xor_bytes, bytes_from}
 use Rattle.cells.proofs.Loops.{xored, xored_more}
@@ -35,6 +30,3 @@ returns c =
     l.invariant.2
     ∙ ap (xored x.line.now (9 * x.k) x.pattern.now) e
     ∙ ap (λ (q : List ℕ). sets x.line.now (9 * x.k) (xor_bytes (bytes_from 9 (9 * x.k) x.line.now) q)) (take_all 9 x.pattern.now (omega arith))
-
-pub shape_of-line : goal.shape_of-line
-shape_of-line c = c.loop-i.invariant.1

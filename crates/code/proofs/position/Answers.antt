@@ -1,12 +1,9 @@
--- `code::position` meets its contract: eight steps and the ninth show the position with this syndrome, or have passed all 72. The measure is
--- the steps of the eight that are left.
+-- `code::position` meets its contract: eight steps and the ninth show the position with this syndrome, or have passed all 72.
 -- Assumes nothing.
-use mathlib.Core.Path.{refl, ◌∙◌}
-use Prim.Native.Nat.{◌≤◌, ◌<◌}
-use native.Mathlib.Omega.{arith}
-use lib.Dec.{lit≤}
+use Rattle.std.proofs.Common.{refl, lit≤, arith}
+use Rattle.std.specs.Prelude.{◌≤◌, ◌<◌}
 use Rattle.code.specs.Code.{times_x, remainder_in, remainder, syndrome_of, syndrome_at}
-use Rattle.code.proofs.Walk.{side_by_side, power_after, powers_after, found_after, place_le, walk_fits, walk_next, walk_found, walk_last, walk_none}
+use Rattle.code.proofs.Walk.{side_by_side, power_after, powers_after, found_after, walk_fits, walk_next, walk_found, walk_last, walk_none}
 use Rattle.code.proofs.position.Goals as goal
 
 pub loop-i-init : goal.loop-i-init
@@ -23,25 +20,19 @@ loop-i-preserved c =
     let inside : c.loop-i.i < 8 = omega (arith, c.loop-i-test.true) in
     walk_next c.ranges.syndrome.fits c.loop-i.invariant inside c.walks_at.ensures c.times_x-powers.ensures
 
-pub returns-then-found-ne0 : goal.returns-then-found-ne0
-returns-then-found-ne0 c =
+pub returns-in-Some : goal.returns-in-Some
+returns-in-Some c =
     let past : 8 ≤ c.loop-i.i = omega (arith, c.loop-i-test.false) in
-    c.position_found.ensures ∙ walk_found c.ranges.syndrome.fits c.loop-i.invariant past c.if-found-ne0.true
+    let first = c.in-Some.ensures in
+    walk_found c.ranges.syndrome.fits c.loop-i.invariant past first.number first.within
 
-pub overflow_mul-result : goal.overflow_mul-result
-overflow_mul-result c = let h = place_le _ _ c.lowest_byte.ensures in record { fits = omega (arith, h) }
-
-pub overflow_add-result : goal.overflow_add-result
-overflow_add-result c = let h = place_le _ _ c.lowest_byte.ensures in record { fits = omega (arith, h) }
-
-pub returns-then-last-ne0 : goal.returns-then-last-ne0
-returns-then-last-ne0 c =
+pub returns-in-Some-lowest_bit : goal.returns-in-Some-lowest_bit
+returns-in-Some-lowest_bit c =
     let past : 8 ≤ c.loop-i.i = omega (arith, c.loop-i-test.false) in
-    walk_last c.ranges.syndrome.fits c.loop-i.invariant past c.if-found-ne0.false
-    c.walks_at-last.ensures c.if-last-ne0.true c.lowest_byte.ensures
+    let ninth = c.in-Some-lowest_bit.ensures in
+    walk_last c.ranges.syndrome.fits c.loop-i.invariant past c.in_default.ensures.number c.walks_at-2.ensures ninth.number ninth.within
 
-pub returns : goal.returns
-returns c =
+pub returns-in-None : goal.returns-in-None
+returns-in-None c =
     let past : 8 ≤ c.loop-i.i = omega (arith, c.loop-i-test.false) in
-    walk_none c.ranges.syndrome.fits c.loop-i.invariant past c.if-found-ne0.false
-    c.walks_at-last.ensures c.if-last-ne0.false
+    walk_none c.ranges.syndrome.fits c.loop-i.invariant past c.in_default.ensures.number c.walks_at-2.ensures c.in-None.ensures.number

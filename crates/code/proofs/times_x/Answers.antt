@@ -1,15 +1,11 @@
 -- `code::times_x` meets its contract: the steps act on each byte by itself, and antt computes a test of each byte.
 -- Assumes nothing.
 use mathlib.Core.Path.{refl}
-use Prim.Native.Nat.{◌/◌, ◌^◌}
 use lib.Dec.{lit<}
 use Rattle.code.specs.Code.{times_x}
 use Rattle.code.proofs.Side.{same}
-use Rattle.code.proofs.Walk.{masked_times, eight_times}
+use Rattle.code.proofs.Walk.{eight_times}
 use Rattle.code.proofs.times_x.Goals as goal
-
-pub overflow_mul-result : goal.overflow_mul-result
-overflow_mul-result c = record { fits = masked_times (c.args.powers / 2 ^ 7) _ _ tt }
 
 pub returns : goal.returns
 unfolding same times_x

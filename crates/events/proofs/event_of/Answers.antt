@@ -1,23 +1,18 @@
--- `events::event_of` meets its contract. Assumes nothing.
-use mathlib.Core.Path.{sym, ap, ◌∙◌}
-use mathlib.Core.List.{List}
-use Prim.Native.Nat.{ℕ}
-use lib.ListN.{get_or}
-use Rattle.events.specs.Fields.{fields}
-use Rattle.events.specs.FieldLaws.{tail_part}
+use Rattle.std.proofs.Common.{arith}
+use Rattle.std.proofs.lemmas.Bool.Decides.{nat_tests}
 use Rattle.events.specs.Events.{letter_event}
-use Rattle.events.specs.EventLaws.{short_event, joined_event, letter_event_lem}
+use Rattle.events.specs.FieldLaws.{tail_part}
+use Rattle.events.specs.EventLaws.{event_at}
 use Rattle.events.proofs.event_of.Goals as goal
 
-pub returns-then-line-lt2 : goal.returns-then-line-lt2
-returns-then-line-lt2 c = sym (short_event c.args.line.now c.if-line-lt2.true)
+pub returns-in-119 : goal.returns-in-119
+unfolding letter_event
+returns-in-119 c = rw (event_at c.args.line.now c.in-119.len_at_least, c.write_event.ensures, tail_part c.args.line.now 2) (grind (arith, nat_tests))
 
-pub returns-then-line-ne32 : goal.returns-then-line-ne32
-returns-then-line-ne32 c = sym (joined_event c.args.line.now c.if-line-lt2.false c.if-line-ne32.true)
+pub returns-in-114 : goal.returns-in-114
+unfolding letter_event
+returns-in-114 c = rw (event_at c.args.line.now c.in-114.len_at_least, c.read_event.ensures, tail_part c.args.line.now 2) (grind (arith, nat_tests))
 
-pub returns : goal.returns
-returns c =
-    let s = c.args.line.now in
-    c.letter_event.ensures
-    ∙ ap (λ (t : List ℕ). letter_event (get_or s 0 0) (fields t)) (tail_part s 2)
-    ∙ sym (letter_event_lem s c.if-line-lt2.false c.if-line-ne32.false)
+pub returns-in-102 : goal.returns-in-102
+unfolding letter_event
+returns-in-102 c = rw (event_at c.args.line.now c.in-102.len_at_least, c.fault_event.ensures, tail_part c.args.line.now 2) (grind (arith, nat_tests))

@@ -1,33 +1,33 @@
--- `events::fault_event` meets its contract. Assumes nothing.
-use mathlib.Core.Path.{refl, sym, ap, ◌∙◌}
-use mathlib.Core.List.{List}
-use Prim.Native.Nat.{ℕ}
-use native.Mathlib.Omega.{arith}
-use Rattle.events.specs.Fields.{fields}
-use Rattle.events.specs.FieldLaws.{tail_part}
-use Rattle.events.specs.Events.{number_then, chip_event, fault_event}
-use Rattle.events.specs.EventLaws.{leading_led, number_then_lem, number_unless}
+use Rattle.events.specs.EventLaws.{fault_by, pattern_two, pattern_none}
+use Rattle.events.specs.NumberLaws.{two_hex_small}
 use Rattle.events.proofs.fault_event.Goals as goal
 
-pub returns-in_default : goal.returns-in_default
-unfolding fault_event chip_event number_then
-returns-in_default c =
-    sym (number_unless (chip_event) c.args.rest.now c.leading_number.ensures
-    (λ n. refl) c.in_default.is)
+pub returns-in_err-line : goal.returns-in_err-line
+returns-in_err-line c = rw (c.from_residual.ensures, fault_by c.args.rest.now, ← c.in_err-line.ensures)
 
-pub slice_bounds-chip_event-count : goal.slice_bounds-chip_event-count
-slice_bounds-chip_event-count c =
-    let s = c.args.rest.now in
-    let l = leading_led s c.leading_number.ensures c.in-Number.is in
-    omega (arith, l.within)
+pub returns-in_err-chip : goal.returns-in_err-chip
+returns-in_err-chip c =
+    rw (c.from_residual-in_err-chip.ensures, fault_by c.args.rest.now, ← c.in_ok-line.ensures, ← c.in_err-chip.ensures)
 
-pub slice_bounds-chip_event-start : goal.slice_bounds-chip_event-start
-slice_bounds-chip_event-start c =
-    let s = c.args.rest.now in
-    (leading_led s c.leading_number.ensures c.in-Number.is).within
+pub returns-then-pattern-ne18 : goal.returns-then-pattern-ne18
+returns-then-pattern-ne18 c =
+    let none = pattern_none c.in_ok-line.line c.in_ok-chip.chip c.in_ok-chip.pattern.now c.if-pattern-ne18.true in
+    rw (fault_by c.args.rest.now, ← c.in_ok-line.ensures, ← c.in_ok-chip.ensures, none)
+
+pub returns-in_err-word : goal.returns-in_err-word
+returns-in_err-word c =
+    let two = pattern_two c.in_ok-line.line c.in_ok-chip.chip c.in_ok-chip.pattern.now c.if-pattern-ne18.false c.split_at.ensures.front c.split_at.ensures.back in
+    rw (c.from_residual-in_err-word.ensures, fault_by c.args.rest.now, ← c.in_ok-line.ensures, ← c.in_ok-chip.ensures, two, ← c.in_err-word.ensures)
+
+pub returns-in_err-check : goal.returns-in_err-check
+returns-in_err-check c =
+    let two = pattern_two c.in_ok-line.line c.in_ok-chip.chip c.in_ok-chip.pattern.now c.if-pattern-ne18.false c.split_at.ensures.front c.split_at.ensures.back in
+    rw (c.from_residual-in_err-check.ensures, fault_by c.args.rest.now, ← c.in_ok-line.ensures, ← c.in_ok-chip.ensures, two, ← c.in_ok-word.ensures, ← c.in_err-check.ensures)
+
+pub overflow_cast-result : goal.overflow_cast-result
+overflow_cast-result c = record { fits = two_hex_small c.split_at.result.1.now c.in_ok-check.ensures }
 
 pub returns : goal.returns
-unfolding fault_event
 returns c =
-    let s = c.args.rest.now in
-    sym (number_then_lem (chip_event) s c.leading_number.ensures c.in-Number.is ∙ ap (λ (t : List ℕ). chip_event c.in-Number.value (fields t)) (sym (tail_part s c.in-Number.next)) ∙ sym c.chip_event.ensures)
+    let two = pattern_two c.in_ok-line.line c.in_ok-chip.chip c.in_ok-chip.pattern.now c.if-pattern-ne18.false c.split_at.ensures.front c.split_at.ensures.back in
+    rw (fault_by c.args.rest.now, ← c.in_ok-line.ensures, ← c.in_ok-chip.ensures, two, ← c.in_ok-word.ensures, ← c.in_ok-check.ensures)

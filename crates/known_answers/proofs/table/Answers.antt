@@ -21,6 +21,6 @@ holds c t = all_every (λ s. s.0 ≡ s.1) (λ s. eqb s.0 s.1) (λ s. eqb→eq s.
 all_hold : {rows : List (List ℕ)} → rows ≡ map columns cases → T (all test cases) → Marked rows
 all_hold e t = record { these = e; hold = all_every (λ c. Every (λ s. s.0 ≡ s.1) (says c)) test holds cases t }
 
-pub returns : goal.returns
+pub returns-clause-cases : goal.returns-clause-cases
 unfolding cases test says check_of mended_word mended bit_at position_of position_from syndrome_at syndrome_of remainder remainder_in times_x
-returns c = all_hold refl tt
+returns-clause-cases c = all_hold refl tt

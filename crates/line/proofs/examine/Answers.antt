@@ -1,5 +1,5 @@
 -- `line::examine` meets its contract. Assumes nothing.
-use mathlib.Core.Path.{◌≡◌, refl, ap, ◌∙◌}
+use mathlib.Core.Path.{◌≡◌, ap, ◌∙◌}
 use mathlib.Core.Bool.{not}
 use mathlib.Core.List.{List}
 use Prim.Native.Nat.{ℕ}
@@ -17,31 +17,15 @@ unsound_is : (m : List ℕ) {s : Syndromes} {n : ℕ} → s ≡ syndromes_of m �
 unsound_is m e q = q ∙ ap (λ s. mask (λ k. not (eqb (syndrome_in s k) 0)) 9) e ∙ unsound_mask m
 
 pub pass-pass_one-requires : goal.pass-pass_one-requires
-pass-pass_one-requires c =
-    record { sizes = (c.requires.0, c.requires.1); unsound = unsound_is c.args.line.now c.of_line-syndromes.ensures c.unsound_chips-unsound.ensures }
+pass-pass_one-requires c = unsound_is c.args.line.now c.of_line-syndromes.ensures c.unsound_chips-unsound.ensures
 
-pub pass-flagged-requires : goal.pass-flagged-requires
-pass-flagged-requires c =
-    record {
-      sizes = (c.requires.0, c.requires.1);
-      unsound = unsound_is c.args.line.now c.of_line-syndromes.ensures c.unsound_chips-unsound.ensures;
-      candidates = c.pass-pass_one.ensures.candidates;
-    }
+pub pass-flagged-requires-clause-unsound : goal.pass-flagged-requires-clause-unsound
+pass-flagged-requires-clause-unsound c = unsound_is c.args.line.now c.of_line-syndromes.ensures c.unsound_chips-unsound.ensures
 
-pub resolve-finding-requires : goal.resolve-finding-requires
-resolve-finding-requires c =
-    record { sizes = (c.requires.0, c.requires.1, refl, refl); syndromes = c.of_line-syndromes.ensures; parity = c.pass-pass_one.ensures.parity; flagged = c.pass-flagged.ensures }
-
-pub returns : goal.returns
-returns c =
+pub returns-clause-examined : goal.returns-clause-examined
+returns-clause-examined c =
     let m = c.args.line.now in
     let cws = c.args.catch_words.now in
-    let flagged = c.pass-flagged.ensures in
     let candidates = c.pass-pass_one.ensures.candidates in
-    let found = c.resolve-finding.ensures in
-    record {
-      examined = examined_is m cws found.finding candidates flagged (passes_made m cws candidates flagged c.passes_made-passes.ensures);
-      words = found.words;
-      checks = found.checks;
-      sizes = found.sizes;
-    }
+    let flagged = c.pass-flagged.ensures in
+    examined_is m cws c.resolve-finding.ensures.finding candidates flagged (passes_made m cws candidates flagged c.passes_made-passes.ensures)

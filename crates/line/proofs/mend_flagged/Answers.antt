@@ -1,56 +1,49 @@
 -- `line::mend_flagged` meets its contract. Assumes nothing.
-use mathlib.Core.Path.{refl}
+use Prim.Native.Nat.{◌-◌, ◌^◌}
 use native.Mathlib.Omega.{arith}
-use Rattle.passes.specs.Passes.{is_flagged_beyond}
-use Rattle.line.proofs.Steps.{mended_found, rebuilt_found, beyond_found, lowest_some, lowest_one}
+use lib.Count.{count_trailing_zeros}
+use Rattle.cells.specs.MaskLaws.{TakenOff}
+use Rattle.line.proofs.Steps.{mended_found, rebuilt_found, beyond_found, lowest_one}
 use Rattle.line.proofs.mend_flagged.Goals as goal
+use Rattle.line.proofs.mend_flagged.Goals.{After-lowest-k}
 
-pub pass-pass_three-requires : goal.pass-pass_three-requires
-pass-pass_three-requires c =
-    record { sizes = c.requires.sizes; syndromes = c.requires.syndromes; parity = c.requires.parity; flagged = c.requires.flagged }
+-- the one chip beyond mending
+one : (c : After-lowest-k)
+    → TakenOff c.pass-parity.result.beyond c.lowest-k.result (c.pass-parity.result.beyond - 2 ^ count_trailing_zeros 32 c.pass-parity.result.beyond)
+one c = lowest_one _ c.pass-parity.ensures.beyond c.if-count-eq1.true c.lowest-k.ensures
 
 pub returns-then-count-eq0 : goal.returns-then-count-eq0
 returns-then-count-eq0 c =
-    let all = (let third = c.pass-pass_three in
-    mended_found c.args.line.now c.args.catch_words.now c.args.flagged c.requires.flagged c.requires.several _ _ third.result.beyond
-    third.result.parity third.ensures.words third.ensures.checks third.ensures.beyond third.ensures.parity third.ensures.sizes.0 third.ensures.sizes.1 c.if-count-eq0.true c.must_cancel.ensures) in record { finding = all.0; words = all.1.0; checks = all.1.1.0; sizes = all.1.1.1 }
+    let a = c.args in
+    let asked = c.requires in
+    let third = c.pass-parity.ensures in
+    let found =
+    mended_found a.line.now a.catch_words.now asked.first_two asked.several third.words third.checks third.beyond third.parity c.if-count-eq0.true
+    c.must_cancel.ensures in
+    record { finding = found.finding; words = found.words; checks = found.checks }
 
-pub bounds-words-k : goal.bounds-words-k
-bounds-words-k c =
-    (lowest_some (is_flagged_beyond c.args.line.now c.args.catch_words.now) c.pass-pass_three.ensures.beyond refl
-    c.if-count-eq0.false c.lowest-k.ensures).below
+pub bounds-places-k : goal.bounds-places-k
+bounds-places-k c = (one (goal.at.bounds-places-k c).After-lowest-k).below
 
 pub put-requires : goal.put-requires
-put-requires c =
-    let third = c.pass-pass_three.ensures in (
-      third.sizes.0,
-      third.sizes.1,
-      (lowest_some (is_flagged_beyond c.args.line.now c.args.catch_words.now) c.pass-pass_three.ensures.beyond refl
-          c.if-count-eq0.false c.lowest-k.ensures).below,
-    )
+put-requires c = (one (goal.at.put-requires c).After-lowest-k).below
 
 pub returns-then-count-eq1 : goal.returns-then-count-eq1
 returns-then-count-eq1 c =
-    let all = (let m = c.args.line.now in
-    let cws = c.args.catch_words.now in
-    let third = c.pass-pass_three in
-    let one = c.if-count-eq1.true in
-    rebuilt_found m cws c.args.flagged c.requires.flagged c.requires.several _ _ third.result.beyond third.result.parity third.ensures.words third.ensures.checks
-    third.ensures.beyond third.ensures.parity third.ensures.sizes.0 third.ensures.sizes.1 one
-    (lowest_one (is_flagged_beyond m cws) third.ensures.beyond one c.lowest-k.ensures) c.put.ensures.words c.put.ensures.checks) in record { finding = all.0; words = all.1.0; checks = all.1.1.0; sizes = all.1.1.1 }
+    let a = c.args in
+    let asked = c.requires in
+    let third = c.pass-parity.ensures in
+    let put = c.put.ensures in
+    let found =
+    rebuilt_found a.line.now a.catch_words.now asked.first_two asked.several third.words third.checks third.beyond third.parity c.if-count-eq1.true
+    (one (goal.at.returns-then-count-eq1 c).After-lowest-k) put.words put.checks put.there in
+    record { finding = found.finding; words = found.words; checks = found.checks }
 
-pub returns : goal.returns
-returns c =
-    let all = (let third = c.pass-pass_three in
-    beyond_found c.args.line.now c.args.catch_words.now c.args.flagged c.requires.flagged c.requires.several _ _ third.result.beyond
-    third.result.parity third.ensures.words third.ensures.checks third.ensures.beyond third.ensures.parity third.ensures.sizes.0 third.ensures.sizes.1 c.if-count-eq0.false c.if-count-eq1.false) in record { finding = all.0; words = all.1.0; checks = all.1.1.0; sizes = all.1.1.1 }
-
-pub offset_bounds-words-k : goal.offset_bounds-words-k
-offset_bounds-words-k c =
-    record {
-      fits = omega (
-        arith,
-        (lowest_some (is_flagged_beyond c.args.line.now c.args.catch_words.now) c.pass-pass_three.ensures.beyond refl
-            c.if-count-eq0.false c.lowest-k.ensures).below,
-      );
-    }
+pub returns-else-count-eq1 : goal.returns-else-count-eq1
+returns-else-count-eq1 c =
+    let a = c.args in
+    let asked = c.requires in
+    let third = c.pass-parity.ensures in
+    let found =
+    beyond_found a.line.now a.catch_words.now asked.first_two asked.several third.words third.checks third.beyond third.parity (omega arith) in
+    record { finding = found.finding; words = found.words; checks = found.checks }

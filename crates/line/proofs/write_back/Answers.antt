@@ -3,7 +3,6 @@ use mathlib.Core.Path.{◌≡◌, refl, sym, ap, ap₂, ◌∙◌}
 use mathlib.Core.Bool.{Bool, true, false, cond}
 use mathlib.Core.List.{List}
 use Prim.Native.Nat.{ℕ, ◌<◌}
-use native.Mathlib.Omega.{arith}
 use lib.Dec.{eqb}
 use lib.ListN.{length, get_or}
 use borrow.Author.Tests.{eqb-true, eqb-false}
@@ -11,8 +10,9 @@ use Rattle.cells.specs.Chips.{joined, in_mask}
 use Rattle.cells.specs.Cells.{chip_at, codeword, with_chip}
 use Rattle.cells.specs.CellLaws.{length_chip, length_codeword, length_joined, length_with_chip, chip_laid, chip_other, chip_joined, same_chips}
 use Rattle.cells.specs.MaskLaws.{TakenOff, no_member}
-use Rattle.cells.proofs.Loops.{pending_lowest, pending_below, pending_next, rest_own, rest_other}
+use Rattle.cells.proofs.Loops.{pending_turn, pending_next, rest_own, rest_other}
 use Rattle.line.proofs.write_back.Goals as goal
+use Rattle.line.proofs.write_back.Goals.{In-Some}
 use Rattle.line.proofs.write_back.Invariants.{chip, Laid}
 
 nine : (b : Bool) (w : ℕ) (bs : List ℕ) → length bs ≡ 9 → length (cond b (codeword w) bs) ≡ 9
@@ -20,14 +20,6 @@ nine true w bs e = length_codeword w
 nine false w bs e = e
 
 module _ (line words : List ℕ) (flagged : ℕ) (e : length line ≡ 81) where
-  laid_none : flagged < 512 → Laid line words flagged flagged line
-  laid_none f =
-      record { pending = record { fits = f; chips = λ k l t. t }; size = e; done = λ k l. pick (in_mask flagged k) (chip_at line k) _ }
-    where
-      pick : (b : Bool) (x y : List ℕ) → x ≡ cond b x (cond b y x)
-      pick true x y = refl
-      pick false x y = refl
-
   laid_more : {rest k t : ℕ} {s u : List ℕ} → Laid line words flagged rest s → TakenOff rest k t → u ≡ with_chip s k (codeword (get_or words k 0))
       → Laid line words flagged t u
   laid_more {rest} {k} {t} {s} {u} h l q =
@@ -58,41 +50,26 @@ module _ (line words : List ℕ) (flagged : ℕ) (e : length line ≡ 81) where
       h.done k l ∙ ap (λ (c : Bool). cond c (chip_at line k) (chip line flagged words k)) (ap (λ (x : ℕ). in_mask x k) z ∙ no_member k l)
       ∙ sym (chip_joined (chip line flagged words) long k l))
 
-pub loop-rest-init : goal.loop-rest-init
-loop-rest-init c = laid_none c.args.line.now c.args.words.now c.args.flagged c.requires.sizes.0 c.requires.flagged
+-- the chip that has its turn
+inside : (c : In-Some) → c.in-Some.k < 9
+inside c = (pending_turn c.loop-k.invariant.pending c.in-Some.ensures.steps).below
 
-pub bounds-words-k : goal.bounds-words-k
-bounds-words-k c = pending_below c.loop-rest.invariant.pending c.loop-rest-test.true c.lowest-k.ensures
+pub bounds-places-k : goal.bounds-places-k
+bounds-places-k c = inside (goal.at.bounds-places-k c).In-Some
+
+pub bounds-places-k-in-loop-k : goal.bounds-places-k-in-loop-k
+bounds-places-k-in-loop-k c = inside (goal.at.bounds-places-k-in-loop-k c).In-Some
 
 pub lay_checked-requires : goal.lay_checked-requires
 lay_checked-requires c =
-    let l = c.loop-rest in
-    let turn = pending_lowest l.invariant.pending c.loop-rest-test.true c.lowest-k.ensures refl in
-    record { sizes = (l.invariant.size, turn.below); check = c.requires.checks.at _ turn.below (l.invariant.pending.chips _ turn.below turn.member) }
+    let pending = c.loop-k.invariant.pending in
+    let turn = pending_turn pending c.in-Some.ensures.steps in
+    record { chip = turn.below; check = c.requires.checks.at _ turn.below (pending.chips _ turn.below turn.member) }
 
-pub loop-rest-preserved : goal.loop-rest-preserved
-loop-rest-preserved c =
-    let l = c.loop-rest in
-    laid_more c.args.line.now c.args.words.now c.args.flagged c.requires.sizes.0 l.invariant
-    (pending_lowest l.invariant.pending c.loop-rest-test.true c.lowest-k.ensures c.without_lowest-rest.ensures) c.lay_checked.ensures
+pub loop-k-preserved : goal.loop-k-preserved
+loop-k-preserved c =
+    let laid = c.loop-k.invariant in
+    laid_more c.args.line.now c.args.places.now.words c.args.flagged c.told-line laid (pending_turn laid.pending c.in-Some.ensures.steps) c.lay_checked.ensures
 
 pub returns : goal.returns
-returns c =
-    laid_all c.args.line.now c.args.words.now c.args.flagged c.requires.sizes.0 c.loop-rest.invariant c.loop-rest-test.false
-
-pub offset_bounds-words-k : goal.offset_bounds-words-k
-offset_bounds-words-k c =
-    record { fits = omega (arith, (pending_below c.loop-rest.invariant.pending c.loop-rest-test.true c.lowest-k.ensures)) }
-
-pub bounds-checks-k : goal.bounds-checks-k
-bounds-checks-k c = (pending_below c.loop-rest.invariant.pending c.loop-rest-test.true c.lowest-k.ensures)
-
-pub without_lowest-rest-requires : goal.without_lowest-rest-requires
-without_lowest-rest-requires c = let some = c.loop-rest-test.true in (omega arith, c.loop-rest.invariant.pending.fits)
-
-pub loop-rest-smaller : goal.loop-rest-smaller
-loop-rest-smaller c =
-    (pending_lowest c.loop-rest.invariant.pending c.loop-rest-test.true c.lowest-k.ensures c.without_lowest-rest.ensures).less
-
-pub shape_of-line : goal.shape_of-line
-shape_of-line c = c.loop-rest.invariant.size ∙ sym c.requires.sizes.0
+returns c = laid_all c.args.line.now c.args.places.now.words c.args.flagged c.told-line c.loop-k.invariant c.in-None.ensures.steps.0

@@ -18,8 +18,5 @@ pub record Laid (line words : List ℕ) (flagged rest : ℕ) (s : List ℕ) : Ty
   pub size : length s ≡ 81
   pub done : (k : ℕ) → k < 9 → chip_at s k ≡ cond (in_mask rest k) (chip_at line k) (chip line flagged words k)
 
-abbrev pub invariant-loop-rest : goal.invariant-loop-rest
-invariant-loop-rest l = Laid l.initial.line l.words l.flagged l.rest l.line
-
-abbrev pub decreases-loop-rest : goal.decreases-loop-rest
-decreases-loop-rest l = l.rest
+abbrev pub invariant-loop-k : goal.invariant-loop-k
+invariant-loop-k l = Laid l.initial.line l.places.words l.flagged l.k-iterator.rest l.line

@@ -1,11 +1,9 @@
 -- `memory::write_answered` meets its contract. Assumes nothing.
-use Prim.Native.Nat.{◌+◌, ◌-◌, ◌*◌, ℕ, ◌≤◌}
-use native.Mathlib.Nat.{add-sub_cancel_left}
-use native.Mathlib.Omega.{arith}
+use Prim.Native.Nat.{ℕ}
 use mathlib.Core.Path.{◌≡◌, ap, ◌∙◌}
 use mathlib.Core.Bool.{Bool, true, false, cond}
 use mathlib.Core.List.{List}
-use lib.ListN.{length, get_or, take, drop}
+use lib.ListN.{length, get_or}
 use Rattle.cells.specs.Chips.{joined, in_mask}
 use Rattle.cells.specs.Cells.{chip_at, codeword}
 use Rattle.cells.specs.CellLaws.{length_joined, length_codeword, length_chip}
@@ -32,10 +30,12 @@ length_written o flagged words x size = either_answered (λ (bs : List ℕ). len
 pub returns : goal.returns
 returns c =
     let a = c.args in
-    let m : List ℕ = a.memory.now in
-    let x : List ℕ = line_at m a.line in
-    let fits : 81 * a.line + 81 ≤ length m = omega (arith, c.requires.sizes.0) in
-    let e : take (81 * a.line + 81 - 81 * a.line) (drop (81 * a.line) m) ≡ x = lent m a.line _ (add-sub_cancel_left (81 * a.line) 81) fits in
-    put_back m a.line _ (add-sub_cancel_left (81 * a.line) 81) fits _ _
-    (c.write_answered.ensures ∙ ap (written a.outcome a.flagged a.words.now) e)
-    (length_written a.outcome a.flagged a.words.now x (length_line_at m a.line fits))
+    let m = a.memory.now in
+    let fits = c.requires.size in
+    let start = c.start_of.ensures in
+    let rest = c.split_at_mut-rest.ensures in
+    let part = c.split_at_mut-part.ensures in
+    let whole = rw c.unwrap.ensures at c.as_mut_array.ensures.cases in
+    put_back m a.line start rest.back fits rest.front part.back
+    (c.write_answered.ensures ∙ ap (written a.outcome a.flagged a.places.now.words) (lent m a.line start rest.back part.front whole))
+    (length_written a.outcome a.flagged a.places.now.words (line_at m a.line) (length_line_at m a.line fits))

@@ -1,17 +1,30 @@
 -- `refusals::of_fault` meets its contract. Assumes nothing.
-use mathlib.Core.Path.{◌≡◌, refl, ◌∙◌}
-use mathlib.Core.List.{List, [], ◌∷◌, ◌++◌}
-use Prim.Native.Nat.{ℕ}
-use Rattle.refusals.specs.Refusals.{chip_out, fault_refusal, first_of, line_refusals, pattern_out, refused_if}
-use Rattle.refusals.specs.RefusalLaws.{first_more}
+use Rattle.std.proofs.Common.{◌≡◌, [], ◌∷◌, sym, ◌∙◌, arith, rules}
+use Rattle.std.proofs.lemmas.Grind.{common_steps}
+use Rattle.refusals.specs.Numbers.{number_of, number_in}
+use Rattle.refusals.specs.Refusals.{first_of, refused3, refused4, line_refusals, pattern_out, fault_refusal}
+use Rattle.refusals.proofs.TestLaws.{refused_one, passed_one, refused_first, passed_first}
 use Rattle.refusals.proofs.of_fault.Goals as goal
+
+pub returns-in_err-of_line : goal.returns-in_err-of_line
+unfolding fault_refusal
+returns-in_err-of_line c =
+    let a = c.args in
+    let passed_on : number_in c.from_residual.result ≡ number_of c.in_err-of_line.field-0.0 = search rules in
+    passed_on ∙ sym (refused_first (line_refusals a.rank a.memory.now a.line) (refused3 a.chip ∷ refused4 a.pattern.now ∷ []) _ c.in_err-of_line.ensures)
+
+pub returns-in_err-refuse_if : goal.returns-in_err-refuse_if
+unfolding fault_refusal
+returns-in_err-refuse_if c =
+    let a = c.args in
+    let chip : number_in c.from_residual-in_err-refuse_if.result ≡ first_of (refused3 a.chip ∷ refused4 a.pattern.now ∷ []) =
+    grind (arith, common_steps, refused_one, passed_one) in
+    chip ∙ sym (passed_first (line_refusals a.rank a.memory.now a.line) (refused3 a.chip ∷ refused4 a.pattern.now ∷ []) c.in_ok-of_line.ensures)
 
 pub returns : goal.returns
 unfolding fault_refusal pattern_out
 returns c =
     let a = c.args in
-    let lined : List ℕ = line_refusals a.rank a.memory.now a.line in
-    let chip : c.or_if-before.result ≡ first_of (lined ++ (refused_if (chip_out a.chip) 3 ∷ [])) =
-    c.or_if-before.ensures ∙ first_more lined _ _ _ 3 c.of_line-lined.ensures c.chip_out-chip_refused.ensures in
-    let pattern : c.or_if.result ≡ first_of (c.or_if-before.result ∷ refused_if (pattern_out a.pattern.now) 4 ∷ []) = c.or_if.ensures in
-    pattern ∙ first_more (lined ++ (refused_if (chip_out a.chip) 3 ∷ [])) _ _ (pattern_out a.pattern.now) 4 chip refl
+    let last : number_in c.refuse_if-2.result ≡ first_of (refused3 a.chip ∷ refused4 a.pattern.now ∷ []) =
+    grind (arith, common_steps, refused_one, passed_one) in
+    last ∙ sym (passed_first (line_refusals a.rank a.memory.now a.line) (refused3 a.chip ∷ refused4 a.pattern.now ∷ []) c.in_ok-of_line.ensures)

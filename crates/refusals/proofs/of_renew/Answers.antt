@@ -1,43 +1,18 @@
 -- `refusals::of_renew` meets its contract. Assumes nothing.
-use mathlib.Core.Path.{◌≡◌, sym, ◌∙◌}
-use mathlib.Core.Bool.{true, false}
-use Rattle.refusals.specs.Refusals.{chip_out, not_ready, register_differs, renew_refusal}
+use Rattle.std.proofs.Common.{arith}
+use Rattle.std.proofs.lemmas.Grind.{common_steps}
+use Rattle.refusals.specs.Refusals.{renew_refusal}
+use Rattle.refusals.proofs.TestLaws.{refused_one, passed_one}
 use Rattle.refusals.proofs.of_renew.Goals as goal
 
-pub returns-then-not_ready : goal.returns-then-not_ready
+pub returns-in_err-refuse_if : goal.returns-in_err-refuse_if
 unfolding renew_refusal
-returns-then-not_ready c =
-    let a = c.args in
-    let ready : not_ready a.rank ≡ true = sym c.not_ready.ensures ∙ c.if-not_ready.true in
-    rw ready
+returns-in_err-refuse_if c = grind (arith, common_steps, refused_one, passed_one)
 
-pub returns-then-register_differs : goal.returns-then-register_differs
+pub returns-in_err-refuse_if-2 : goal.returns-in_err-refuse_if-2
 unfolding renew_refusal
-returns-then-register_differs c =
-    let a = c.args in
-    let not_ready_lem = c.not_ready in
-    let ready : not_ready a.rank ≡ false = sym not_ready_lem.ensures ∙ c.if-not_ready.false in
-    let registers : register_differs a.rank ≡ true = sym c.register_differs.ensures ∙ c.if-register_differs.true in
-    rw (ready, registers)
-
-pub returns-then-chip_out : goal.returns-then-chip_out
-unfolding renew_refusal
-returns-then-chip_out c =
-    let a = c.args in
-    let not_ready_lem = c.not_ready in
-    let if1 = c.if-not_ready in
-    let ready : not_ready a.rank ≡ false = sym not_ready_lem.ensures ∙ if1.false in
-    let registers : register_differs a.rank ≡ false = sym c.register_differs.ensures ∙ c.if-register_differs.false in
-    let chip : chip_out a.chip ≡ true = sym c.chip_out.ensures ∙ c.if-chip_out.true in
-    rw (ready, registers, chip)
+returns-in_err-refuse_if-2 c = grind (arith, common_steps, refused_one, passed_one)
 
 pub returns : goal.returns
 unfolding renew_refusal
-returns c =
-    let a = c.args in
-    let not_ready_lem = c.not_ready in
-    let if1 = c.if-not_ready in
-    let ready : not_ready a.rank ≡ false = sym not_ready_lem.ensures ∙ if1.false in
-    let registers : register_differs a.rank ≡ false = sym c.register_differs.ensures ∙ c.if-register_differs.false in
-    let chip : chip_out a.chip ≡ false = sym c.chip_out.ensures ∙ c.if-chip_out.false in
-    rw (ready, registers, chip)
+returns c = grind (arith, common_steps, refused_one, passed_one)

@@ -1,13 +1,21 @@
 -- `refusals::of_write` meets its contract. Assumes nothing.
-use mathlib.Core.Path.{◌∙◌}
-use Rattle.refusals.specs.Refusals.{line_refusals, write_refusal}
-use Rattle.refusals.specs.RefusalLaws.{first_more}
+use Rattle.std.proofs.Common.{◌≡◌, [], ◌∷◌, sym, ◌∙◌, arith, rules}
+use Rattle.std.proofs.lemmas.Grind.{common_steps}
+use Rattle.refusals.specs.Numbers.{number_of, number_in}
+use Rattle.refusals.specs.Refusals.{first_of, refused2, line_refusals, write_refusal}
+use Rattle.refusals.proofs.TestLaws.{refused_first, passed_first}
 use Rattle.refusals.proofs.of_write.Goals as goal
+
+pub returns-in_err-of_line : goal.returns-in_err-of_line
+unfolding write_refusal
+returns-in_err-of_line c =
+    let a = c.args in
+    let passed_on : number_in c.from_residual.result ≡ number_of c.in_err-of_line.field-0.0 = search rules in
+    passed_on ∙ sym (refused_first (line_refusals a.rank a.memory.now a.line) (refused2 a.buffer.now ∷ []) _ c.in_err-of_line.ensures)
 
 pub returns : goal.returns
 unfolding write_refusal
 returns c =
     let a = c.args in
-    c.or_if.ensures
-    ∙ first_more (line_refusals a.rank a.memory.now a.line) _ _ _ 2 c.of_line-before.ensures
-    c.buffer_out.ensures
+    let last : number_in c.refuse_if.result ≡ first_of (refused2 a.buffer.now ∷ []) = grind (arith, common_steps) in
+    last ∙ sym (passed_first (line_refusals a.rank a.memory.now a.line) (refused2 a.buffer.now ∷ []) c.in_ok-of_line.ensures)

@@ -26,7 +26,14 @@ diagnose-requires c =
     let cws = a.catch_words.now in
     let e = evidence_of a.lines a.memory.now a.line cws in
     let told = c.in-Undecided.is in
-    let same = finding_is m cws c.requires.examined in record { sizes = c.requires.sizes; flagged = flagged_is m cws c.requires.examined; xor = left_xor e m cws told same; words = left_words e m cws told same a.words.now c.requires.words; checks = left_checks e m cws told same a.words.now a.checks.now c.requires.checks }
+    let same = finding_is m cws c.requires.examined in
+    record {
+      sizes = c.requires.sizes;
+      flagged = flagged_is m cws c.requires.examined;
+      xor = left_xor e m cws told same;
+      words = left_words e m cws told same a.places.now.words c.requires.words;
+      checks = left_checks e m cws told same a.places.now.words a.places.now.checks c.requires.checks;
+    }
 
 pub returns-in-Decided : goal.returns-in-Decided
 unfolding outcome_of word_of word_in
@@ -37,9 +44,9 @@ returns-in-Decided c =
     let e = evidence_of a.lines a.memory.now a.line cws in
     let told = c.in-Decided.is in
     let ends =
-    subst (λ (f : Finding). Ends e m cws f c.in-Decided.outcome 0 a.words.now a.checks.now) (sym told ∙ finding_is m cws c.requires.examined)
-    (ends_decided e m cws a.words.now a.checks.now told c.requires.words c.requires.checks) in
-    record { outcome = ends.outcome; passes = ends.extra; words = ends.words; checks = ends.checks; sizes = (c.requires.sizes.3, c.requires.sizes.4) }
+    subst (λ (f : Finding). Ends e m cws f c.in-Decided.outcome 0 a.places.now.words a.places.now.checks) (sym told ∙ finding_is m cws c.requires.examined)
+    (ends_decided e m cws a.places.now.words a.places.now.checks told c.requires.words c.requires.checks) in
+    record { outcome = ends.outcome; passes = ends.extra; words = ends.words; checks = ends.checks }
 
 pub returns-in-Undecided : goal.returns-in-Undecided
 unfolding outcome_of word_of word_in
@@ -50,7 +57,7 @@ returns-in-Undecided c =
     let e = evidence_of a.lines a.memory.now a.line cws in
     let made = c.diagnose.ensures in
     let ends =
-    subst (λ (f : Finding). Ends e m cws f c.diagnose.result.outcome c.diagnose.result.passes c.diagnose.new.words c.diagnose.new.checks)
+    subst (λ (f : Finding). Ends e m cws f c.diagnose.result.outcome c.diagnose.result.passes c.diagnose.new.places.words c.diagnose.new.places.checks)
     (sym c.in-Undecided.is ∙ finding_is m cws c.requires.examined)
     (ends_diagnosed e m cws _ made.outcome made.passes made.words made.checks) in
-    record { outcome = ends.outcome; passes = ends.extra; words = ends.words; checks = ends.checks; sizes = made.sizes }
+    record { outcome = ends.outcome; passes = ends.extra; words = ends.words; checks = ends.checks }

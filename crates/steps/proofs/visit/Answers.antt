@@ -7,11 +7,6 @@ use Rattle.rows.proofs.RowLaws.{others_few}
 use Rattle.steps.proofs.Deciding.{flagged_fits, checks_masked, few_passes, report_is, bytes_are}
 use Rattle.steps.proofs.visit.Goals as goal
 
-pub decide-decision-requires : goal.decide-decision-requires
-decide-decision-requires c =
-    let x = c.examine-examined.ensures in
-    record { sizes = (c.requires.0, c.requires.1, c.requires.2, x.sizes.0, x.sizes.1); examined = x.examined; words = x.words; checks = x.checks }
-
 pub write_answered-requires : goal.write_answered-requires
 write_answered-requires c =
     let a = c.args in
@@ -19,7 +14,12 @@ write_answered-requires c =
     let cws = a.catch_words.now in
     let x = c.examine-examined.ensures in
     let d = c.decide-decision.ensures in
-    let e = evidence_of a.lines m a.line cws in record { sizes = (omega (arith, c.requires.0, c.requires.1), d.sizes.0, d.sizes.1); flagged = flagged_fits e (line_at m a.line) cws x.examined; checks = checks_masked e (line_at m a.line) cws x.examined c.decide-decision.new.words c.decide-decision.new.checks d.checks }
+    let e = evidence_of a.lines m a.line cws in
+    record {
+      size = omega (arith, c.requires.0, c.requires.1);
+      flagged = flagged_fits e (line_at m a.line) cws x.examined;
+      checks = checks_masked e (line_at m a.line) cws x.examined c.decide-decision.new.places.words c.decide-decision.new.places.checks d.checks;
+    }
 
 pub overflow_add-result : goal.overflow_add-result
 unfolding evidence_of
@@ -44,5 +44,5 @@ returns c =
     let e = evidence_of a.lines m a.line cws in record {
       report = report_is e (line_at m a.line) cws x.examined d.outcome d.passes;
       memory = c.write_answered.ensures
-          ∙ ap (with_line m a.line) (bytes_are e (line_at m a.line) cws x.examined c.decide-decision.new.words d.outcome d.words);
+          ∙ ap (with_line m a.line) (bytes_are e (line_at m a.line) cws x.examined c.decide-decision.new.places.words d.outcome d.words);
     }

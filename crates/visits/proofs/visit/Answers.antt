@@ -13,7 +13,7 @@ returns c =
     let v = c.visit-report in record {
       report = v.ensures.report;
       catch_words = c.move_words.ensures
-          ∙ ap (λ (n : ℕ). moved_by n v.result.collisions a.catch_words.now) c.refusal.ensures
+          ∙ ap (λ (n : ℕ). moved_by n v.result.collisions a.catch_words.now) c.refusal-refusal.ensures
           ∙ ap (λ (w : Report). words_after w a.catch_words.now) v.ensures.report;
       memory = v.ensures.memory;
     }

@@ -1,15 +1,11 @@
 -- `words::store_word` meets its contract. Assumes nothing.
-use mathlib.Core.List.{reverse}
-use Prim.Native.Nat.{ℕ}
-use lib.Seq.{sets}
-use mathlib.Core.Path.{ap, ◌∙◌}
-use Rattle.words.specs.Bytes.{bytes_of}
-use Rattle.words.specs.ByteLaws.{swap_swap, bytes_bytes_of, length_bytes_of}
+use Rattle.std.proofs.Common.{◌∙◌}
+use Rattle.words.specs.ByteLaws.{length_bytes_of}
+use Rattle.words.proofs.Words.{high_first, stores}
 use Rattle.words.proofs.store_word.Goals as goal
 
 pub returns : goal.returns
 returns c =
     let x = c.args in
-    c.store_little.ensures
-    ∙ ap (λ (w : ℕ). sets x.bytes.now x.at (reverse (bytes_of 8 w))) c.swapped.ensures
-    ∙ ap (sets x.bytes.now x.at) (swap_swap (bytes_of 8 x.word) (bytes_bytes_of 8 x.word) (length_bytes_of 8 x.word))
+    stores x.bytes.now x.at c.requires (length_bytes_of 8 x.word)
+    (c.copy_from_slice.ensures.after ∙ c.to_be_bytes.ensures ∙ high_first x.word)

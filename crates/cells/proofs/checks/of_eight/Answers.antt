@@ -3,6 +3,7 @@ use mathlib.Core.Path.{◌≡◌, ◌∙◌}
 use mathlib.Core.List.{List, reverse}
 use Prim.Native.Nat.{ℕ, ◌+◌, ◌*◌, ◌≤◌}
 use native.Mathlib.Omega.{arith}
+use borrow.Author.Rules.{rules}
 use lib.ListN.{length}
 use Rattle.code.specs.Code.{check_of}
 use Rattle.lanes.specs.Lanes.{lanes, swapped}
@@ -17,7 +18,7 @@ returns c =
     let m : List ℕ = c.args.bytes.now in
     let s : ℕ = c.args.step in
     let load : (j at r : ℕ) → at ≡ s * j → at + 8 ≤ length m → r ≡ number_of (reverse (bytes_from 8 at m)) → swapped r ≡ number_of (bytes_from 8 (s * j) m) =
-    λ j at r e h l. swapped_load m (λ i. (c.shared_slice_known-1.given i).fits) at r h l ∙ λ i. number_of (bytes_from 8 (e i) m) in
+    λ j at r e h l. swapped_load m (search rules) at r h l ∙ λ i. number_of (bytes_from 8 (e i) m) in
     let w0 = load 0 0 _ (omega arith) (omega (arith, c.requires)) c.load_little.ensures in
     let w1 = load 1 s _ (omega arith) (omega (arith, c.requires)) c.load_little-2.ensures in
     let w2 = load 2 (2 * s) _ (omega arith) (omega (arith, c.requires)) c.load_little-3.ensures in

@@ -1,9 +1,5 @@
 -- `passes::first_two::flagged` meets its contract. Assumes nothing.
-use mathlib.Core.Path.{◌≡◌, sym, ap, ◌∙◌}
-use mathlib.Core.Bool.{not}
-use mathlib.Core.List.{List}
-use Prim.Native.Nat.{ℕ}
-use lib.Dec.{eqb}
+use Rattle.std.proofs.Common.{◌≡◌, sym, ap, ◌∙◌, not, List, ℕ, eqb}
 use Rattle.cells.specs.Chips.{mask}
 use Rattle.passes.specs.Passes.{is_flagged}
 use Rattle.passes.specs.declared.syndromes.Syndromes.{Syndromes}

@@ -1,4 +1,4 @@
-use Prim.Native.Nat.{◌-◌}
+use Rattle.std.proofs.Common.{◌-◌}
 use Rattle.cells.specs.Chips.{xor_all}
 use Rattle.cells.specs.Cells.{word_at}
 use Rattle.cells.proofs.Loops.{Upto}

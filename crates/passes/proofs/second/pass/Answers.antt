@@ -1,6 +1,5 @@
 -- `passes::second::pass` meets its contract. Assumes nothing.
-use mathlib.Core.Path.{ap₂, ◌∙◌}
-use lib.Bits.{bit_and}
+use Rattle.std.proofs.Common.{ap₂, ◌∙◌, bit_and}
 use Rattle.passes.proofs.Masks.{flagged_unsound}
 use Rattle.passes.proofs.second.pass.Goals as goal
 

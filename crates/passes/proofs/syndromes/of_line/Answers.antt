@@ -1,7 +1,5 @@
 -- `passes::syndromes::of_line` meets its contract. Assumes nothing.
-use mathlib.Core.Path.{ap₂, ◌∙◌}
-use Prim.Native.Nat.{ℕ}
-use lib.Bits.{bit_xor}
+use Rattle.std.proofs.Common.{ap₂, ◌∙◌, ℕ, bit_xor}
 use Rattle.code.specs.Code.{cell, syndrome_of}
 use Rattle.cells.specs.Cells.{word_at, cell_at}
 use Rattle.cells.specs.Checks.{word_every}
@@ -16,7 +14,7 @@ returns c =
     let asked = c.of_eight-asked.ensures in
     let held = c.held-held.ensures in
     let m = c.args.line.now in
-    let bytes : Bytes m = λ i. (c.shared_slice_known-1.given i).fits in
+    let bytes : Bytes m = c.fits-line in
     λ i.
     record {
       eight =

@@ -1,5 +1,4 @@
-use mathlib.Core.List.{List}
-use Prim.Native.Nat.{ℕ, ◌%◌}
+use Rattle.std.proofs.Common.{List, ℕ, ◌%◌}
 use Rattle.code.specs.Code.{mended, mended_word}
 use Rattle.cells.specs.Cells.{cell_at}
 use Rattle.passes.specs.Passes.{is_flagged}
@@ -13,9 +12,8 @@ word m k = mended_word (cell_at m k)
 abbrev pub check : List ℕ → ℕ → ℕ
 check m k = mended (cell_at m k) % 256
 
-abbrev pub invariant-loop-rest : goal.invariant-loop-rest
-invariant-loop-rest l = Sent l.line l.catch_words l.rest l.xor l.beyond
-    × (Put (is_flagged l.line l.catch_words) (word l.line) l.rest l.words × Put (is_flagged l.line l.catch_words) (check l.line) l.rest l.checks)
-
-abbrev pub decreases-loop-rest : goal.decreases-loop-rest
-decreases-loop-rest l = l.rest
+abbrev pub invariant-loop-k : goal.invariant-loop-k
+invariant-loop-k l =
+    Sent l.line l.catch_words l.k-iterator.rest l.xor l.beyond
+    × (Put (is_flagged l.line l.catch_words) (word l.line) l.k-iterator.rest l.places.words
+    × Put (is_flagged l.line l.catch_words) (check l.line) l.k-iterator.rest l.places.checks)

@@ -1,10 +1,5 @@
 -- `visits::sweep::sweep` meets its contract. Assumes nothing.
-use mathlib.Core.Path.{◌≡◌, sym, ap, ◌∙◌}
-use Prim.Native.Nat.{ℕ, ◌+◌, ◌≤◌}
-use lib.ListN.{length, get_or}
-use mir.Syntax.{w32}
-use mir.Val.{Fits}
-use native.Mathlib.Omega.{arith}
+use Rattle.std.proofs.Common.{◌≡◌, ℕ, ◌+◌, ◌-◌, ◌≤◌, ◌<◌, length, get_or, sym, ap, subst, ◌∙◌, arith, rules, w32, Fits}
 use Rattle.line.specs.declared.Report.{Report}
 use Rattle.record.specs.declared.Rank.{Rank}
 use Rattle.record.specs.Record.{total_limit, accepted, counted_by}
@@ -15,76 +10,65 @@ use Rattle.visits.specs.Runs.{outs, end}
 use Rattle.code.specs.Lists.{up_from}
 use Rattle.visits.specs.Visits.{device, visit_of, refused_by, rewritten_by, refused_in, rewritten_in}
 use Rattle.visits.specs.SweepLaws.{swept_none, Moves, parts_visited, moves_clean, visit_flags, swept_more, all_refused, all_rewritten_lem, all_ended}
-use borrow.Author.Rules.{rules}
 use Rattle.visits.proofs.sweep.sweep.Goals as goal
 use Rattle.visits.proofs.sweep.sweep.Goals.{then-not-is_clean, else-not-is_clean}
 use Rattle.visits.proofs.sweep.sweep.Invariants.{tally}
 
-pub loop-i-init : goal.loop-i-init
+pub loop-line-init : goal.loop-line-init
 unfolding accepted
-loop-i-init c =
+loop-line-init c =
     let words : length c.args.rank.catch_words ≡ 9 = search rules in
     let total : (i : ℕ) → get_or c.args.rank.repairs i 0 ≤ total_limit = λ i.
     let fits : Fits w32 (get_or c.args.rank.repairs i 0) = search rules in omega (arith, fits.fits) in
-    swept_none _ _ _ _ _ words total
+    let start : c.args.first - c.args.first ≡ 0 = omega arith in
+    rw start (swept_none _ _ _ _ _ words total)
 
-pub is_clean-requires : goal.is_clean-requires
+pub add-requires : goal.add-requires
 unfolding accepted
-is_clean-requires c =
-    let inv = c.loop-i.invariant in
-    (omega (arith, inv.size), inv.words)
-
-pub visit-report-requires : goal.visit-report-requires
-unfolding accepted
-visit-report-requires c =
-    let inv = c.loop-i.invariant in
-    (inv.words, omega (arith, inv.size, c.requires.2), omega (arith, c.requires.4))
-
-pub count-requires : goal.count-requires
-unfolding accepted
-count-requires c = (omega (arith, c.requires.3), c.loop-i.invariant.total _)
-
-pub with_visit-counts-requires : goal.with_visit-counts-requires
-unfolding accepted
-with_visit-counts-requires c =
-    let inv = c.loop-i.invariant in
+add-requires c =
+    let inv = c.loop-line.invariant in
     (omega (arith, inv.few_refused), omega (arith, inv.few_rewritten, visit_flags _ _ _ _ c.visit-report.ensures.report))
 
 pub returns : goal.returns
 unfolding accepted
 returns c =
     let a = c.args in
-    let inv = c.loop-i.invariant in
-    let none = c.loop-i-test.false in
+    let inv = c.loop-line.invariant in
+    let none : a.n ≤ c.loop-line.line - a.first = omega (arith, c.loop-line-test.false) in
     let start = accepted_same a.rank c.requires.0 c.requires.1 in record {
       refused = all_refused inv none ∙ ap (λ (r : Rank). refused_in (outs (visit_of a.task) (device r a.memory.now) (up_from a.first a.n))) start;
       rewritten = all_rewritten_lem inv none ∙ ap (λ (r : Rank). rewritten_in (outs (visit_of a.task) (device r a.memory.now) (up_from a.first a.n))) start;
-      after = ap (λ (r : Rank). device r c.loop-i.memory) c.accepted.ensures
+      after = ap (λ (r : Rank). device r c.loop-line.memory) c.accepted.ensures
           ∙ all_ended inv none
           ∙ ap (λ (r : Rank). end (visit_of a.task) (device r a.memory.now) (up_from a.first a.n)) start;
     }
 
 -- the line is visited and counted, or it is clean and left out
-pub loop-i-preserved : goal.loop-i-preserved
+pub loop-line-preserved : goal.loop-line-preserved
 unfolding accepted visit_of
-loop-i-preserved c =
+loop-line-preserved c =
     let a = c.args in
-    let l = c.loop-i in
+    let l = c.loop-line in
     let after = c.if-not-is_clean in
     let inv = l.invariant in
-    let moves : Moves a.task (tally a.rank.lines l.catch_words l.totals l.counts) l.memory (a.first + l.i) (tally a.rank.lines after.catch_words after.totals after.counts) after.memory =
+    let before_it = tally a.rank.lines l.catch_words l.totals l.counts in
+    let after_it = tally a.rank.lines after.catch_words after.totals after.counts in
+    let moves : Moves a.task before_it l.memory l.line after_it after.memory =
     elim after.branch [
       | then-not-is_clean w ↦
           let v = w.visit-report.ensures in
-          let k = w.with_visit-counts.ensures in
+          let k = w.add.ensures in
           record {
             refused = ap (λ (k : Counts). k.refused) w.counts-is ∙ k.refused ∙ ap (λ (q : Report). l.counts.refused + refused_by q.outcome) v.report;
             rewritten = ap (λ (k : Counts). k.rewritten) w.counts-is ∙ k.rewritten ∙ ap (λ (q : Report). l.counts.rewritten + rewritten_by q.outcome q.flagged) v.report;
-            after = parts_visited a.task a.rank.lines (a.first + l.i) l.catch_words l.totals l.memory v.report (w.catch_words-is ∙ v.catch_words)
-                (w.totals-is ∙ w.count.ensures ∙ ap (λ (n : ℕ). counted_by n a.task w.visit-report.result.flagged l.totals) w.refusal.ensures) (w.memory-is ∙ v.memory);
+            after = parts_visited a.task a.rank.lines l.line l.catch_words l.totals l.memory v.report (w.catch_words-is ∙ v.catch_words)
+                (w.totals-is ∙ w.count.ensures ∙ ap (λ (n : ℕ). counted_by n a.task w.visit-report.result.flagged l.totals) w.refusal-refusal.ensures) (w.memory-is ∙ v.memory);
           }
       | else-not-is_clean w ↦
           moves_clean (length_line_at _ _ (omega (arith, inv.size))) (sym c.is_clean.ensures ∙ w.if-not-is_clean.false) inv.words inv.words (inv.total _)
           (λ i. tally a.rank.lines (w.catch_words-is i) (w.totals-is i) (w.counts-is i)) w.memory-is
     ] in
-    swept_more inv c.loop-i-test.true moves
+    let here : l.line ≡ a.first + (l.line - a.first) = omega (arith, l.auto.line) in
+    let next : l.line + 1 - a.first ≡ l.line - a.first + 1 = omega (arith, l.auto.line) in
+    let below : l.line - a.first < a.n = omega (arith, l.auto.line, c.loop-line-test.true) in
+    rw next (swept_more inv below (subst (λ (j : ℕ). Moves a.task before_it l.memory j after_it after.memory) here moves))
