@@ -5,8 +5,9 @@
 #![tactic(auto)]
 
 ghost use Rattle.std.specs.Prelude.{◌≡◌, ◌^◌, ◌<◌};
+ghost use Rattle.std.specs.Int.Bits.{bit_xor};
 ghost use Rattle.code.specs.Code.{check_of};
-ghost use Rattle.lanes.specs.Lanes.{lanes, swapped, fold_lanes, fold_pairs, fold_halves, fold_quarters, times_byte, last_folds};
+ghost use Rattle.lanes.specs.Lanes.{lanes, swapped, up, fold_lanes, fold_pairs, fold_halves, fold_quarters, times_byte, last_folds};
 
 // Two numbers of four lanes. Both go through the same steps side by side, so that the compiler can take them together: a function of four
 // words, called for each of the two, takes a third longer.
@@ -60,18 +61,27 @@ pub fn pack(a: u64, b: u64, c: u64, d: u64) -> u64
 // The low byte of each lane.
 const LOW_BYTES: u64 = 0x00ff_00ff_00ff_00ff;
 
-// Each lane folded at x^8, whose remainder times_byte has.
+// Each lane folded at x^8.
+#[tactic(auto, unfolding(crate::specs::Lanes::fold_lanes))]
 fn fold_lanes(v: u64) -> u64
     ensures { result ≡ fold_lanes v }
 {
-    (v & LOW_BYTES) ^ times_byte((v >> 8) & LOW_BYTES)
+    onto(v & LOW_BYTES, (v >> 8) & LOW_BYTES)
 }
 
 // The same where each lane's low byte has the higher powers. A parameter for which byte is folded onto which would be no plainer.
+#[tactic(auto, unfolding(crate::specs::Lanes::fold_pairs))]
 fn fold_pairs(v: u64) -> u64
     ensures { result ≡ fold_pairs v }
 {
-    ((v >> 8) & LOW_BYTES) ^ times_byte(v & LOW_BYTES)
+    onto((v >> 8) & LOW_BYTES, v & LOW_BYTES)
+}
+
+// What each lane folds down, times x^8, onto what it keeps. The remainder of x^8 is x^2 + x + 1.
+fn onto(l: u64, h: u64) -> u64
+    ensures { result ≡ bit_xor (bit_xor (bit_xor l h) (up 1 h)) (up 2 h) }
+{
+    l ^ h ^ (h << 1) ^ (h << 2)
 }
 
 // The lower two lanes of two numbers, which have the higher powers, folded at x^32 onto the upper two. The remainder of x^32 is

@@ -13,6 +13,7 @@ use Rattle.texts.specs.Outputs.{HasRoom}
 use Rattle.texts.specs.TextLaws.{prints_none, prints_then}
 use Rattle.texts.specs.declared.Output.{Output}
 use Rattle.answers.specs.Answers.{Reply, reply_by, reply_to, Replies}
+use Rattle.script.specs.Kept.{Kept}
 use Rattle.script.specs.Sessions.{Session, goes_on, ends, ends_by, fed, finished_by, finished, start, output_of, Stands, Follows, Advance, Finish}
 use Rattle.script.specs.declared.sessions.Progress.{Progress}
 
@@ -96,8 +97,8 @@ reply_kept s {t} {r} {q} {m} {n} e f h =
     ap (λ (u : List ℕ). reply_to u r m) e ∙ ap (λ v. reply_by v r m) (kept_event s) ∙ ap₂ (λ (x : Rank) (y : List ℕ). reply_to s x y) f h
 
 -- a session whose line ends
-stands_ended : (g : Session) {q : Reply} {r : Rank} {l m' : List ℕ} {o o' : Output} → q ≡ reply_to g.begun g.rank g.memory
-    → Replies q r m' o o' → l ≡ [] → Stands (ends g) (record { rank = r; line = l }) m'
+stands_ended : (g : Session) {q : Reply} {r : Rank} {l : Kept} {m' : List ℕ} {o o' : Output} → q ≡ reply_to g.begun g.rank g.memory
+    → Replies q r m' o o' → l.bytes ≡ [] → Stands (ends g) (record { rank = r; line = l }) m'
 unfolding ends ends_by
 stands_ended g same h e =
     record {
@@ -113,7 +114,8 @@ prints_ended g same = ap (λ (x : Reply). g.printed ++ x.text) (sym same)
 -- ---- a run over one line
 
 -- the line goes on
-pub advance_on : {p : Progress} {s l : List ℕ} (m : List ℕ) (o : Output) → index_of line_feed s ≡ length s → l ≡ take 41 (p.line ++ s)
+pub advance_on : {p : Progress} {s : List ℕ} {l : Kept} (m : List ℕ) (o : Output) → index_of line_feed s ≡ length s
+    → l.bytes ≡ take 41 (p.line.bytes ++ s)
     → Advance p (record { rank = p.rank; line = l }) s [] m o m o
 unfolding goes_on
 advance_on {p} {s} m o none e =
@@ -131,8 +133,8 @@ advance_on {p} {s} m o none e =
     }
 
 -- the line ends
-pub advance_end : {p : Progress} {s end behind l l' m m' : List ℕ} {o o' : Output} {r : Rank} → Cut line_feed s end behind
-    → l ≡ take 41 (p.line ++ end) → Replies (reply_to l p.rank m) r m' o o' → l' ≡ []
+pub advance_end : {p : Progress} {s end behind l : List ℕ} {l' : Kept} {m m' : List ℕ} {o o' : Output} {r : Rank} → Cut line_feed s end behind
+    → l ≡ take 41 (p.line.bytes ++ end) → Replies (reply_to l p.rank m) r m' o o' → l'.bytes ≡ []
     → Advance p (record { rank = r; line = l' }) s behind m o m' o'
 unfolding goes_on
 advance_end {p} {s} {end} {behind} {l} {l'} {m} cut e h none =
@@ -216,7 +218,7 @@ none_begun : (s : List ℕ) → [] ≡ take 41 s → s ≡ []
 none_begun [] e = refl
 none_begun (b ∷ s) e = cc
 
-pub finish_none : {p : Progress} (m : List ℕ) (o : Output) → p.line ≡ [] → Finish p m o m o
+pub finish_none : {p : Progress} (m : List ℕ) (o : Output) → p.line.bytes ≡ [] → Finish p m o m o
 unfolding finished finished_by
 finish_none {p} m o e =
     let same : (g : Session) → Stands g p m → finished g ≡ g =
@@ -233,25 +235,25 @@ unfolding finished_by
 some_begun [] g h = absurd (h refl)
 some_begun (b ∷ s) g h = refl
 
-pub finish_line : {p : Progress} {m m' : List ℕ} {o o' : Output} {r : Rank} → (p.line ≡ [] → ⊥) → Replies (reply_to p.line p.rank m) r m' o o'
+pub finish_line : {p : Progress} {m m' : List ℕ} {o o' : Output} {r : Rank} → (p.line.bytes ≡ [] → ⊥) → Replies (reply_to p.line.bytes p.rank m) r m' o o'
     → Finish p m o m' o'
 unfolding finished
 finish_line {p} {m} some h =
-    let reply : (g : Session) → Stands g p m → reply_to p.line p.rank m ≡ reply_to g.begun g.rank g.memory =
+    let reply : (g : Session) → Stands g p m → reply_to p.line.bytes p.rank m ≡ reply_to g.begun g.rank g.memory =
     λ g at. reply_kept g.begun at.begun_is at.rank_is at.memory_is in
     let same : (g : Session) → Stands g p m → finished g ≡ ends g =
     λ g at. some_begun g.begun g (λ e. some (at.begun_is ∙ ap (λ (s : List ℕ). take 41 s) e)) in
     record {
-      text = (reply_to p.line p.rank m).text;
+      text = (reply_to p.line.bytes p.rank m).text;
       laid = h.output_is;
-      memory_is = λ g at. (stands_ended g {l = []} (reply g at) h refl).memory_is ∙ ap (λ (x : Session). x.memory) (sym (same g at));
+      memory_is = λ g at. (stands_ended g {l = record { bytes = []; spare = [] }} (reply g at) h refl).memory_is ∙ ap (λ (x : Session). x.memory) (sym (same g at));
       prints = λ g at. ap (λ (x : Session). x.printed) (same g at) ∙ prints_ended g (reply g at);
     }
 
 -- ---- a whole input
 
 -- what a run that begins with no line begun prints for the input and at its end is all that is printed for it
-pub whole_output : {p r : Progress} {s t m m' m'' : List ℕ} {o o' : Output} → p.line ≡ [] → Follows p r s t m m'
+pub whole_output : {p r : Progress} {s t m m' m'' : List ℕ} {o o' : Output} → p.line.bytes ≡ [] → Follows p r s t m m'
     → (f : Finish r m' o m'' o') → output_of p.rank m s ≡ t ++ f.text
 unfolding output_of start
 whole_output {p} {r} {s} {t} {m} none h f =

@@ -51,7 +51,7 @@ output_of r m s = (finished (fed (start r m) s)).printed
 pub record Stands (g : Session) (p : Progress) (memory : List ℕ) : Type 0 where
   pub rank_is : p.rank ≡ g.rank
   pub memory_is : memory ≡ g.memory
-  pub begun_is : p.line ≡ take 41 g.begun
+  pub begun_is : p.line.bytes ≡ take 41 g.begun
 
 -- a run goes from p to r over bytes s and prints t: whatever session it stood at, it stands at that one fed with s, which has printed t
 -- more. m is the lent memory, and m' is the memory after it.

@@ -12,27 +12,37 @@ use texts::Output;
 // The bytes that are kept of a line. A longer line is no event, and neither are its first 41 bytes.
 pub const KEPT: usize = 41;
 
-// The line that has begun: its first bytes, 41 at the most. Not `Copy`, which a type with a `Model` can't be yet.
-#[derive(Drop)]
+// The line that has begun: its first bytes, 41 at the most. Contracts see the bytes behind them too (`spare`), and say nothing of them: a
+// type whose model leaves out a part of it can't be `Copy`.
+#[derive(Clone, Copy)]
 pub struct Line {
     bytes: [u8; KEPT],
     kept: usize,
 }
 
 impl Model for Line {
-    ghost use Rattle.std.specs.Prelude.{ℕ, ◌≤◌, List, take};
+    ghost use Rattle.std.specs.Prelude.{◌≡◌, ◌++◌, ◌≤◌, drop, length, take};
+    ghost use Rattle.std.proofs.Common.{length-take-le, subst, sym, take-append-drop};
+    ghost use Rattle.script.specs.Kept.{Kept};
 
-    ghost Value = { List ℕ };
+    ghost Value = { Kept };
 
-    ghost view = { λ line. take line.kept line.bytes };
+    ghost view = { λ line. record { bytes = take line.kept line.bytes; spare = drop line.kept line.bytes } };
 
-    ghost invariant = { λ line. line.kept ≤ 41 };
+    ghost invariant = { λ line. (line.kept ≤ 41) × (length line.bytes ≡ 41) };
+
+    ghost inverse = { λ line. record { bytes = line.bytes ++ line.spare; kept = length line.bytes } };
+
+    ghost inverse_ok = { λ line h i. record {
+      bytes = take-append-drop line.kept line.bytes i;
+      kept = length-take-le line.kept line.bytes (subst (λ n. line.kept ≤ n) (sym h.1) h.0) i;
+    } };
 }
 
 impl Line {
     // A line of which nothing has come.
     pub fn new() -> Self
-        ensures { result ≡ [] }
+        ensures { result.bytes ≡ [] }
     {
         Line {
             bytes: [0; KEPT],
@@ -42,14 +52,14 @@ impl Line {
 
     // The bytes kept.
     pub fn bytes(&self) -> &[u8]
-        ensures { result.now ≡ self.now }
+        ensures { result.now ≡ self.now.bytes }
     {
         &self.bytes[..self.kept]
     }
 
     // The line goes on with bytes, of which as many are kept as there is room for.
     pub fn add(&mut self, bytes: &[u8])
-        ensures { self.new ≡ take 41 (self.old ++ bytes.now) }
+        ensures { self.new.bytes ≡ take 41 (self.old.bytes ++ bytes.now) }
     {
         let fitting = bytes.len().min(KEPT - self.kept);
         let (from, end) = (self.kept, self.kept + fitting);
@@ -59,14 +69,14 @@ impl Line {
 
     // Begins the next line.
     pub fn clear(&mut self)
-        ensures { self.new ≡ [] }
+        ensures { self.new.bytes ≡ [] }
     {
         self.kept = 0;
     }
 }
 
 // How far a run has come: the record, and the line that has begun.
-#[derive(Drop)]
+#[derive(Clone, Copy)]
 pub struct Progress {
     pub rank: Rank,
     pub line: Line,

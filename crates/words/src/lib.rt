@@ -61,7 +61,7 @@ pub fn store_byte(bytes: &mut [u8], at: usize, byte: u8)
     bytes[at] = byte;
 }
 
-// The lowest byte of a number. It stays for its clause, `result ≡ x % 256`, which no other function states.
+// The lowest byte of a number.
 pub fn low(x: u64) -> u8
     ensures { result ≡ x % 256 }
 {
