@@ -69,7 +69,7 @@ fn fold_lanes(v: u64) -> u64
     onto(v & LOW_BYTES, (v >> 8) & LOW_BYTES)
 }
 
-// The same where each lane's low byte has the higher powers. A parameter for which byte is folded onto which would be no plainer.
+// The same where each lane's low byte has the higher powers.
 #[tactic(auto, unfolding(crate::specs::Lanes::fold_pairs))]
 fn fold_pairs(v: u64) -> u64
     ensures { result ≡ fold_pairs v }
@@ -77,7 +77,8 @@ fn fold_pairs(v: u64) -> u64
     onto((v >> 8) & LOW_BYTES, v & LOW_BYTES)
 }
 
-// What each lane folds down, times x^8, onto what it keeps. The remainder of x^8 is x^2 + x + 1.
+// What each lane folds down (h), times x^8, onto what it keeps (l). The remainder of x^8 is x^2 + x + 1. Not by `times_byte`: the
+// definitions of the folds have the xors in this order.
 fn onto(l: u64, h: u64) -> u64
     ensures { result ≡ bit_xor (bit_xor (bit_xor l h) (up 1 h)) (up 2 h) }
 {

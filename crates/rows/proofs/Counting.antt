@@ -1,58 +1,17 @@
--- What the loops over the chips of a mask and over the lines of a row keep. Assumes nothing.
-use mathlib.Core.Path.{◌≡◌, sym, ap, ap₂, ◌∙◌, subst⁻¹}
+-- What the loop over the lines of a row keeps. Assumes nothing.
+use mathlib.Core.Path.{◌≡◌, sym, ap, ◌∙◌, subst⁻¹}
 use mathlib.Core.Logic.{◌≢◌}
 use mathlib.Core.Bool.{Bool, cond}
 use mathlib.Core.List.{List, [], ◌∷◌}
 use Prim.Native.Nat.{ℕ, suc, ◌+◌, ◌-◌, ◌≤◌, ◌<◌}
 use native.Mathlib.Nat.{add-zero}
 use native.Mathlib.Omega.{arith}
-use lib.ListN.{length, get_or, set, length-set}
-use lib.Seq.{get_or-set_same, get_or-set_other}
-use native.Mathlib.Decide.{ℕ_discrete}
-use Rattle.cells.specs.MaskLaws.{TakenOff, no_member}
-use Rattle.cells.proofs.Loops.{Pending, pending_next, rest_own, rest_other}
+use lib.ListN.{length, get_or}
 use borrow.Author.Tests.{eq-eqb, ne_eqb}
 use Rattle.code.specs.Lists.{up_from, without, sum_of}
 use Rattle.cells.specs.Chips.{of_chips, bit, mask, in_mask}
 use Rattle.cells.specs.ChipLaws.{length_of_chips, get_d_of_chips, of_chips_ext, of_chips_list, bit_lt, in_mask_lem}
 use Rattle.rows.specs.Counts.{AtMost}
-
--- ---- the chips of a mask, each counted at its turn
-
--- the chips of `rest` are still to be counted
-pub record Added (before : List ℕ) (flagged rest : ℕ) (counts : List ℕ) : Type 0 where
-  pub pending : Pending (in_mask flagged) rest
-  pub size : length counts ≡ 9
-  pub sum : (k : ℕ) → k < 9 → get_or counts k 0 + bit (in_mask rest k) ≡ get_or before k 0 + bit (in_mask flagged k)
-
-pub added_more : {before counts : List ℕ} {flagged rest k t : ℕ} → Added before flagged rest counts → TakenOff rest k t
-    → Added before flagged t (set counts k (get_or counts k 0 + 1))
-added_more {before} {counts} {flagged} {rest} {k} {t} h turn =
-    record {
-      pending = pending_next h.pending turn;
-      size = length-set counts k _ ∙ h.size;
-      sum = λ j l. by j l (ℕ_discrete j k);
-    }
-  where
-    after : List ℕ
-    after = set counts k (get_or counts k 0 + 1)
-
-    own : get_or after k 0 ≡ get_or counts k 0 + 1
-    own = get_or-set_same counts k _ 0 (omega (arith, h.size, turn.below))
-
-    by : (j : ℕ) → j < 9 → Dec (j ≡ k) → get_or after j 0 + bit (in_mask t j) ≡ get_or before j 0 + bit (in_mask flagged j)
-    by j l (yes same) =
-        subst⁻¹ (λ (i : ℕ). get_or after i 0 + bit (in_mask t i) ≡ get_or before i 0 + bit (in_mask flagged i)) same
-        (omega (arith, own, h.sum k turn.below, ap bit (rest_own turn), ap bit turn.member))
-    by j l (no ne) =
-        ap₂ (λ (a : ℕ) (b : Bool). a + bit b) (get_or-set_other counts k j _ 0 ne) (rest_other turn j l ne) ∙ h.sum j l
-
-pub added_all : {before counts : List ℕ} {flagged rest : ℕ} → Added before flagged rest counts → rest ≡ 0
-    → counts ≡ of_chips (λ k. get_or before k 0 + bit (in_mask flagged k)) 9
-added_all {before} {counts} {flagged} h none =
-    sym (of_chips_list counts 9 h.size)
-    ∙ of_chips_ext _ _ 9
-    (λ k l. sym (add-zero (get_or counts k 0)) ∙ ap (λ (b : Bool). get_or counts k 0 + bit b) (sym (ap (λ (r : ℕ). in_mask r k) none ∙ no_member k l)) ∙ h.sum k l)
 
 -- ---- the lines of a row
 

@@ -13,7 +13,7 @@ use Rattle.texts.specs.Outputs.{HasRoom}
 use Rattle.texts.specs.TextLaws.{prints_none, prints_then}
 use Rattle.texts.specs.declared.Output.{Output}
 use Rattle.answers.specs.Answers.{Reply, reply_by, reply_to, Replies}
-use Rattle.script.specs.Kept.{Kept}
+use Rattle.script.specs.LineBytes.{LineBytes}
 use Rattle.script.specs.Sessions.{Session, goes_on, ends, ends_by, fed, finished_by, finished, start, output_of, Stands, Follows, Advance, Finish}
 use Rattle.script.specs.declared.sessions.Progress.{Progress}
 
@@ -97,7 +97,7 @@ reply_kept s {t} {r} {q} {m} {n} e f h =
     ap (λ (u : List ℕ). reply_to u r m) e ∙ ap (λ v. reply_by v r m) (kept_event s) ∙ ap₂ (λ (x : Rank) (y : List ℕ). reply_to s x y) f h
 
 -- a session whose line ends
-stands_ended : (g : Session) {q : Reply} {r : Rank} {l : Kept} {m' : List ℕ} {o o' : Output} → q ≡ reply_to g.begun g.rank g.memory
+stands_ended : (g : Session) {q : Reply} {r : Rank} {l : LineBytes} {m' : List ℕ} {o o' : Output} → q ≡ reply_to g.begun g.rank g.memory
     → Replies q r m' o o' → l.bytes ≡ [] → Stands (ends g) (record { rank = r; line = l }) m'
 unfolding ends ends_by
 stands_ended g same h e =
@@ -114,7 +114,7 @@ prints_ended g same = ap (λ (x : Reply). g.printed ++ x.text) (sym same)
 -- ---- a run over one line
 
 -- the line goes on
-pub advance_on : {p : Progress} {s : List ℕ} {l : Kept} (m : List ℕ) (o : Output) → index_of line_feed s ≡ length s
+pub advance_on : {p : Progress} {s : List ℕ} {l : LineBytes} (m : List ℕ) (o : Output) → index_of line_feed s ≡ length s
     → l.bytes ≡ take 41 (p.line.bytes ++ s)
     → Advance p (record { rank = p.rank; line = l }) s [] m o m o
 unfolding goes_on
@@ -133,7 +133,7 @@ advance_on {p} {s} m o none e =
     }
 
 -- the line ends
-pub advance_end : {p : Progress} {s end behind l : List ℕ} {l' : Kept} {m m' : List ℕ} {o o' : Output} {r : Rank} → Cut line_feed s end behind
+pub advance_end : {p : Progress} {s end behind l : List ℕ} {l' : LineBytes} {m m' : List ℕ} {o o' : Output} {r : Rank} → Cut line_feed s end behind
     → l ≡ take 41 (p.line.bytes ++ end) → Replies (reply_to l p.rank m) r m' o o' → l'.bytes ≡ []
     → Advance p (record { rank = r; line = l' }) s behind m o m' o'
 unfolding goes_on

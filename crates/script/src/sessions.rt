@@ -12,8 +12,8 @@ use texts::Output;
 // The bytes that are kept of a line. A longer line is no event, and neither are its first 41 bytes.
 pub const KEPT: usize = 41;
 
-// The line that has begun: its first bytes, 41 at the most. Contracts see the bytes behind them too (`spare`), and say nothing of them: a
-// type whose model leaves out a part of it can't be `Copy`.
+// The line that has begun: its first bytes, 41 at the most. Contracts see the room behind them too (`spare`) and say nothing of it: a type
+// whose model leaves a part out can't be `Copy`.
 #[derive(Clone, Copy)]
 pub struct Line {
     bytes: [u8; KEPT],
@@ -23,12 +23,13 @@ pub struct Line {
 impl Model for Line {
     ghost use Rattle.std.specs.Prelude.{◌≡◌, ◌++◌, ◌≤◌, drop, length, take};
     ghost use Rattle.std.proofs.Common.{length-take-le, subst, sym, take-append-drop};
-    ghost use Rattle.script.specs.Kept.{Kept};
+    ghost use Rattle.script.specs.LineBytes.{LineBytes};
 
-    ghost Value = { Kept };
+    ghost Value = { LineBytes };
 
     ghost view = { λ line. record { bytes = take line.kept line.bytes; spare = drop line.kept line.bytes } };
 
+    // The second fact is the array's own. It stands here since `inverse_ok` knows the invariant alone.
     ghost invariant = { λ line. (line.kept ≤ 41) × (length line.bytes ≡ 41) };
 
     ghost inverse = { λ line. record { bytes = line.bytes ++ line.spare; kept = length line.bytes } };

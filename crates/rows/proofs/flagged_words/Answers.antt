@@ -1,8 +1,6 @@
 -- `rows::flagged_words` meets its contract. Assumes nothing.
-use mathlib.Core.Path.{◌∙◌, subst⁻¹}
-use Prim.Native.Nat.{ℕ, ◌^◌, ◌<◌}
+use mathlib.Core.Path.{◌∙◌}
 use native.Mathlib.Omega.{arith}
-use Rattle.cells.specs.ChipLaws.{mask_lt}
 use Rattle.rows.proofs.Counting.{counted_skip, counted_more, all_counted}
 use Rattle.rows.proofs.flagged_words.Goals as goal
 use Rattle.rows.proofs.flagged_words.Goals.{then-other-line, else-other-line}
@@ -10,7 +8,7 @@ use Rattle.rows.proofs.flagged_words.Goals.{then-other-line, else-other-line}
 pub add-requires : goal.add-requires
 add-requires c =
     let inv = c.loop-other.invariant in
-    (subst⁻¹ (λ (n : ℕ). n < 2 ^ 9) c.flagged.ensures (mask_lt _ 9), λ k b. omega (arith, inv.few k b, inv.upto, c.requires.2))
+    λ k b. omega (arith, inv.few k b, inv.upto, c.requires.2)
 
 pub loop-other-preserved : goal.loop-other-preserved
 loop-other-preserved c =
